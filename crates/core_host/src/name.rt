@@ -1,0 +1,33 @@
+ghost use Rattle.std.specs.Prelude.{◌≡◌, string_bytes};
+
+use std::marker::Model;
+
+/// A `String` that contracts see as the list of its bytes.
+#[derive(Debug, Drop)]
+pub struct Name {
+    text: String,
+}
+
+impl Model for Name {
+    ghost use Rattle.std.specs.Prelude.{List, ℕ, string_bytes};
+
+    ghost Value = { List ℕ };
+
+    ghost view = { λ it. string_bytes it.text };
+}
+
+impl Name {
+    /// The name of these bytes. It takes no memory.
+    pub fn of(s: String) -> Name
+        ensures { result ≡ string_bytes s }
+    {
+        Name { text: s }
+    }
+
+    /// The text, lent.
+    pub fn text(&self) -> &String
+        ensures { string_bytes result.now ≡ self.now }
+    {
+        &self.text
+    }
+}
