@@ -1,0 +1,15 @@
+pub mod Signs
+pub mod Lexemes
+pub mod Words
+pub mod Bytes
+pub mod Blanks
+pub mod Lex
+pub mod TokensOf
+pub mod TokenText
+pub mod Depth
+pub mod Grammar
+pub mod Module
+pub mod Readers
+pub mod Parse
+pub mod Read
+pub mod Hex
