@@ -1,0 +1,4 @@
+pub mod Memory
+pub mod Protocol
+pub mod Honest
+pub mod Duties

@@ -1,0 +1,3 @@
+pub mod Follows
+pub mod Refines
+pub mod CoreText

@@ -1,0 +1,13 @@
+pub mod Look
+pub mod Plain
+pub mod Erase
+pub mod Cycle
+pub mod Run
+pub mod CorePorts
+pub mod Declarations
+pub mod Names
+pub mod Kinds
+pub mod Widths
+pub mod Drivers
+pub mod Loops
+pub mod Sound
