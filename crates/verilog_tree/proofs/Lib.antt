@@ -5,3 +5,6 @@ pub mod ExprIsSpelled
 pub mod OneList
 pub mod ModuleIsRead
 pub mod ModuleIsSpelled
+pub mod Scans
+pub mod TokenList
+pub mod Readings

@@ -5,6 +5,7 @@ pub mod Bytes
 pub mod Blanks
 pub mod Lex
 pub mod TokensOf
+pub mod TokensAhead
 pub mod TokenText
 pub mod Depth
 pub mod Grammar
