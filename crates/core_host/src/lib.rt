@@ -4,11 +4,13 @@
 mod host;
 mod list;
 mod loops;
+mod memory;
 mod name;
 mod real;
 
 pub use host::{Host, HostFailed, Port};
 pub use list::List;
 pub use loops::{ReadEnd, push_all, read_file};
+pub use memory::{MemFile, MemHost};
 pub use name::Name;
 pub use real::RealHost;
