@@ -14,3 +14,6 @@ pub use loops::{ReadEnd, push_all, read_file};
 pub use memory::{MemFile, MemHost};
 pub use name::Name;
 pub use real::RealHost;
+
+#[cfg(test)]
+mod tests;

@@ -2,7 +2,7 @@ ghost use Rattle.std.specs.Prelude.{◌≡◌, ◌≤◌, ◌<◌, ◌+◌, ◌-
 ghost use Rattle.std.specs.List.{list_any};
 ghost use Rattle.core_host.specs.declared.host.Port.{Port};
 ghost use Rattle.core_host.specs.Outside.{Rose, Appends, Opens, IsMissing, IsNameOf, Pulls, held};
-ghost use Rattle.core_host.specs.Memory.{IsFresh, IsGiven, left_in, name_in, text_on, pairs, place, no_file, next_call, is_to_fail, called, read_failed, write_failed, moved_count};
+ghost use Rattle.core_host.specs.Memory.{IsFresh, IsGiven, left_in, name_in, text_on, pairs, place, no_file, next_call, is_to_fail, one_more, called, read_failed, write_failed, moved_count};
 
 use crate::{Host, HostFailed, List, Name, Port};
 use std::alloc::{AllocError, Global};
@@ -90,11 +90,22 @@ impl MemHost {
     }
 }
 
-/// Whether the call of this number is to fail.
-fn is_listed(fails: &Vec<u32>, call: u64) -> bool
-    ensures { result ≡ list_any (λ n. nat_eq n call) fails.now.items }
+/// Counts a call, up to 2 ^ 32, and answers whether the call of that number is to fail.
+fn count_call(calls: &mut u64, fails: &Vec<u32>) -> bool
+    ensures counted { calls.new ≡ min (calls.old + 1) (2 ^ 32) }
+    ensures listed { result ≡ list_any (λ n. nat_eq n calls.new) fails.now.items }
 {
+    let call = calls.saturating_add(1).min(1 << 32);
+    *calls = call;
     fails.iter().any(|&n| u64::from(n) == call)
+}
+
+/// Counts a fault, up to the last `u64`.
+fn count_fault(faults: &mut u64) -> HostFailed
+    ensures { faults.new ≡ one_more faults.old }
+{
+    *faults = faults.saturating_add(1);
+    HostFailed
 }
 
 /// The place of the first file of a name.
@@ -209,10 +220,8 @@ impl Host for MemHost {
         ensures place { IfOk result (λ n. place name.now self.old.files ≡ Some n) }
         ensures only { IfOk result (λ n. self.new ≡ record (called self.old) { given = slice_set self.old.given n true; taken = self.new.taken }) }
     {
-        self.calls = self.calls.saturating_add(1).min(1 << 32);
-        if is_listed(&self.fails, self.calls) {
-            self.read_faults = self.read_faults.saturating_add(1);
-            return Err(HostFailed);
+        if count_call(&mut self.calls, &self.fails) {
+            return Err(count_fault(&mut self.read_faults));
         }
         match place_of(&self.files, name) {
             Some(place) => {
@@ -244,10 +253,8 @@ impl Host for MemHost {
         ensures moved { IfOk result (λ k. k ≡ moved_count (length into.old) (length (left_in self.old file)) self.old.bite) }
         ensures only { OnOk result (self.new ≡ record (called self.old) { taken = self.new.taken }) }
     {
-        self.calls = self.calls.saturating_add(1).min(1 << 32);
-        if is_listed(&self.fails, self.calls) {
-            self.read_faults = self.read_faults.saturating_add(1);
-            return Err(HostFailed);
+        if count_call(&mut self.calls, &self.fails) {
+            return Err(count_fault(&mut self.read_faults));
         }
         let number = file as usize;
         let bytes = self.files[number].bytes.items().as_slice();
@@ -275,10 +282,8 @@ impl Host for MemHost {
         ensures moved { IfOk result (λ k. k ≡ moved_count (length bytes.now) (self.old.room - length (text_on self.old port)) self.old.bite) }
         ensures only { OnOk result (self.new ≡ record (called self.old) { main = self.new.main; notes = self.new.notes }) }
     {
-        self.calls = self.calls.saturating_add(1).min(1 << 32);
-        if is_listed(&self.fails, self.calls) {
-            self.write_faults = self.write_faults.saturating_add(1);
-            return Err(HostFailed);
+        if count_call(&mut self.calls, &self.fails) {
+            return Err(count_fault(&mut self.write_faults));
         }
         let added = match port {
             Port::Main => append(&mut self.main, self.room, self.bite, bytes),
@@ -286,10 +291,7 @@ impl Host for MemHost {
         };
         match added {
             Some(count) => Ok(count),
-            None => {
-                self.write_faults = self.write_faults.saturating_add(1);
-                Err(HostFailed)
-            }
+            None => Err(count_fault(&mut self.write_faults)),
         }
     }
 }

@@ -24,8 +24,8 @@ pub struct RealHost<R: Files + Drop, M: Write + Drop, N: Write + Drop> {
 impl<R: Files + Drop, M: Write + Drop, N: Write + Drop> RealHost<R, M, N> {
     /// A host that has opened nothing. The allocator is kept for the list of opened files.
     pub fn new(alloc: Global, files: R, main: M, notes: N) -> RealHost<R, M, N>
-        ensures reads { result.read_faults ≡ 0 }
-        ensures writes { result.write_faults ≡ 0 }
+        ensures reads { ⟦<RealHost<R, M, N> as Host>⟧.read_faults result ≡ 0 }
+        ensures writes { ⟦<RealHost<R, M, N> as Host>⟧.write_faults result ≡ 0 }
     {
         RealHost {
             files,
