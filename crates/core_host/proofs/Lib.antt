@@ -1,0 +1,4 @@
+pub mod Ports
+pub mod Pulled
+pub mod Places
+pub mod Examples

@@ -1,4 +1,4 @@
-ghost use Rattle.std.specs.Prelude.{◌≡◌, string_bytes};
+ghost use Rattle.std.specs.Prelude.{◌≡◌, ◌↔◌, IsTrue, string_bytes};
 
 use std::marker::Model;
 
@@ -29,5 +29,12 @@ impl Name {
         ensures { string_bytes result.now ≡ self.now }
     {
         &self.text
+    }
+
+    /// Whether the name has the bytes of this text.
+    pub fn is(&self, text: &str) -> bool
+        ensures { IsTrue result ↔ (self.now ≡ text.now) }
+    {
+        self.text.as_str() == text
     }
 }
