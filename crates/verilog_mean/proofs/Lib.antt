@@ -1,0 +1,3 @@
+pub mod Ordered
+pub mod Driven
+pub mod NoLoop
