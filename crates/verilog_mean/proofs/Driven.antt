@@ -48,13 +48,15 @@ module _ (m : Plain) (rank : List ℕ → ℕ) (ranked : IsRanked m rank) (s : S
   enough zero x h = absurd (omega arith)
   enough (suc k) x h = same_source x (value_to m s ins k) (value_to m s ins (suc k)) (λ y b. enough k y (omega arith)) (source_of m x) refl
 
-  -- the one equation of each wire and each output
-  pub value_driven : (x : List ℕ) (e : Expr) → source_of m x ≡ Driven e → value m s ins x ≡ eval (width_in m) s.cells (value m s ins) e
+  -- the one equation of each name: its value is what its source gives over the values of the same cycle
+  pub value_is : (x : List ℕ) → value m s ins x ≡ from_source m s ins x (value m s ins) (source_of m x)
   unfolding value value_to
-  value_driven x e h =
-      ap (from_source m s ins x (value_to m s ins (length m.items))) h
-      ∙ eval-same (width_in m) s.cells (value_to m s ins (length m.items)) (value_to m s ins (suc (length m.items))) e
-      (λ y q. enough (length m.items) y (let a : rank y < rank x = ranked.lower x y e h q in let b : rank x ≤ length m.items = ranked.small x in omega arith))
+  value_is x =
+      same_source x (value_to m s ins (length m.items)) (value_to m s ins (suc (length m.items)))
+      (λ y b. enough (length m.items) y (let c : rank x ≤ length m.items = ranked.small x in omega arith)) (source_of m x) refl
+
+  pub value_driven : (x : List ℕ) (e : Expr) → source_of m x ≡ Driven e → value m s ins x ≡ eval (width_in m) s.cells (value m s ins) e
+  value_driven x e h = value_is x ∙ ap (from_source m s ins x (value m s ins)) h
 
 -- the value of a register and that of an input, of any module
 module _ (m : Plain) (s : State) (ins : List ℕ → ℕ) where
