@@ -1,1 +1,4 @@
 pub mod Ordered
+pub mod Model
+pub mod Bits
+pub mod Decode
