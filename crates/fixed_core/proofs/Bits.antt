@@ -6,6 +6,9 @@ use Rattle.core_words.specs.Values.{one_if, not_of, bits_of, choose, join_of}
 use Rattle.core_words.specs.Fields.{imm_i, imm_u}
 use Rattle.isa_model.specs.Machine.{register}
 
+pub same : (n : ℕ) → n ≡ n
+same n = refl
+
 -- a number below 2 is that of a truth value
 bit_is : (n : ℕ) → n < 2 → n ≡ one_if (eqb n 1)
 bit_is n h = go (eqb n 1) refl
@@ -18,7 +21,7 @@ bit_back : (b : Bool) → eqb (one_if b) 1 ≡ b
 bit_back true = refl
 bit_back false = refl
 
-pub bit_lt : (b : Bool) → one_if b < 2
+bit_lt : (b : Bool) → one_if b < 2
 bit_lt true = omega arith
 bit_lt false = omega arith
 
@@ -43,6 +46,9 @@ pub record Bit (x : ℕ) (b : Bool) : Type 0 where
 
 pub bit_of : (n : ℕ) → n < 2 → Bit n (eqb n 1)
 bit_of n h = record { is = bit_is n h }
+
+pub bit_fits : {x : ℕ} {b : Bool} → Bit x b → x < 2
+bit_fits {x} {b} p = let h : x ≡ one_if b = p.is in let k : one_if b < 2 = bit_lt b in omega arith
 
 -- the truth value of a bit
 pub test_is : {x : ℕ} {b : Bool} → Bit x b → eqb x 1 ≡ b
@@ -70,6 +76,14 @@ chosen {c} {a} {b} {a'} {b'} {t} p q r = ap (λ v. choose v a b) p.is ∙ go t
     go : (t : Bool) → choose (one_if t) a b ≡ cond t a' b'
     go true = q
     go false = r
+
+-- a register of one bit that starts at 0
+pub restarted : {c x : ℕ} {r b : Bool} → Bit c r → Bit x b → Bit (choose c 0 x) (not r && b)
+restarted {c} {x} {r} {b} p q = record { is = ap₂ (λ c x. choose c 0 x) p.is q.is ∙ go r }
+  where
+    go : (r : Bool) → choose (one_if r) 0 (one_if b) ≡ one_if (not r && b)
+    go true = refl
+    go false = refl
 
 -- register 0 reads 0 whatever its cell holds
 pub read_is : (x : List ℕ) {c r v : ℕ} → Bit c (eqb r 0) → v ≡ r → choose c 0 (get_or x v 0) ≡ register x r

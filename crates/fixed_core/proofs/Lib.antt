@@ -4,3 +4,7 @@ pub mod Bits
 pub mod Decode
 pub mod Executes
 pub mod Wires
+pub mod Next
+pub mod Run
+pub mod Control
+pub mod Follow

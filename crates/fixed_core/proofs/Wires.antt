@@ -11,11 +11,8 @@ use Rattle.verilog_mean.proofs.Driven.{value_is}
 use Rattle.fixed_core.specs.Core.{Net, net_name, core_ports, core_items, core_module}
 use Rattle.fixed_core.specs.Core as net
 use Rattle.fixed_core.proofs.Ordered.{core_is_ordered}
-use Rattle.fixed_core.proofs.Bits.{Bit, bit_of, from, turned, both, either, equals, chosen, read_is, imm_i_joined, imm_u_joined}
+use Rattle.fixed_core.proofs.Bits.{same, Bit, bit_of, from, turned, both, either, equals, chosen, read_is, imm_i_joined, imm_u_joined}
 use Rattle.fixed_core.proofs.Model.{Cycle, Tests, tests_of, asks, is_taken, is_done, owed_next, adds, xors, ors, ands, uses_imm, known, second_by, value_1, value_2, value_3, value_4, value_by, a_of, b_of, second_of, value_of, is_fine, puts, cause_by, cause_of, retires, stopped_next, pc_next, writes}
-
-same : (n : ℕ) → n ≡ n
-same n = refl
 
 -- registers and inputs of one bit hold one bit
 pub record Fits (s : State) (ins : List ℕ → ℕ) : Type 0 where
