@@ -8,3 +8,4 @@ pub mod Next
 pub mod Run
 pub mod Control
 pub mod Follow
+pub mod CoreRefines
