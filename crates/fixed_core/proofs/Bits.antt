@@ -1,5 +1,5 @@
 -- Operators on numbers of one bit are those on truth values; and the immediates and the registers of the core.
-use Rattle.std.proofs.Common.{◌≡◌, ℕ, ◌*◌, ◌+◌, ◌^◌, ◌<◌, Bool, true, false, cond, not, eqb, List, ◌&&◌, ◌||◌, get_or, bit_and, bit_or, refl, ap, ◌∙◌, arith}
+use Rattle.std.proofs.Common.{◌≡◌, ℕ, ◌<◌, Bool, true, false, cond, not, eqb, List, ◌&&◌, ◌||◌, get_or, bit_and, bit_or, refl, ap, ◌∙◌, arith}
 use Rattle.std.proofs.Math.Path.{ap₂}
 use Rattle.std.proofs.lemmas.Bool.Decides.{nat_tests}
 use Rattle.core_words.specs.Values.{one_if, not_of, bits_of, choose, join_of}

@@ -1,6 +1,6 @@
 -- The core's control on plain variables: o that a response is owed, s that the core is stopped, r that the bus takes
 -- a command, c that a response comes, f that its word retires.
-use Rattle.std.proofs.Common.{◌≡◌, ℕ, ◌%◌, ◌^◌, ◌+◌, ◌<◌, Bool, true, false, cond, not, eqb, ◌&&◌, ◌||◌, refl, ap, ◌∙◌, sym, subst, arith, Option, Some, None, is_some}
+use Rattle.std.proofs.Common.{◌≡◌, ℕ, ◌%◌, Bool, true, false, cond, not, eqb, ◌&&◌, ◌||◌, refl, ap, ◌∙◌, sym, subst, arith, Option, Some, None, is_some}
 use Rattle.core_words.specs.Values.{add_of}
 use Rattle.bus_law.specs.Memory.{Memory, word_at}
 use Rattle.bus_law.specs.Honest.{FetchReply}

@@ -8,7 +8,6 @@ use Rattle.pipe_refine.specs.Refines.{RefinesFrom, no_claim, Refines}
 use Rattle.fixed_core.specs.Core.{net_name, core_ports, core_items, core_module}
 use Rattle.fixed_core.specs.Core as net
 use Rattle.fixed_core.specs.FixedSet.{fixed_set}
-use Rattle.fixed_core.proofs.Run.{Given}
 use Rattle.fixed_core.proofs.Follow.{follows}
 
 -- the machine's registers are the cells of the array, with cell 0 set to 0

@@ -11,13 +11,23 @@ use Rattle.isa_model.specs.Machine.{Machine, register, has_row}
 use Rattle.isa_model.specs.Machine.Fetched.{Word}
 use Rattle.isa_model.specs.Step.{Moment, Done, trap, retire, behind, act_of_row, outcome_of}
 use Rattle.fixed_core.specs.FixedSet.{fixed_set}
-use Rattle.fixed_core.proofs.Model.{Tests, tests_of, adds, xors, ors, ands, uses_imm, known, second_by, value_1, value_2, value_3, value_4, value_by, cause_by}
+use Rattle.fixed_core.proofs.Model.{Tests, tests_of, known, second_by, value_1, value_2, value_3, value_4, value_by, cause_by}
 
 -- the tests of a word of the row at a place of the table
 unfoldable pub tests_at : (place : ℕ) → Tests
 tests_at n = record {
-  lui = eqb 0 n; addi = eqb 1 n; xori = eqb 2 n; ori = eqb 3 n; andi = eqb 4 n; add = eqb 5 n;
-  sub = eqb 6 n; xor = eqb 7 n; or = eqb 8 n; and = eqb 9 n; ecall = eqb 10 n; ebreak = eqb 11 n;
+  lui = eqb 0 n;
+  addi = eqb 1 n;
+  xori = eqb 2 n;
+  ori = eqb 3 n;
+  andi = eqb 4 n;
+  add = eqb 5 n;
+  sub = eqb 6 n;
+  xor = eqb 7 n;
+  or = eqb 8 n;
+  and = eqb 9 n;
+  ecall = eqb 10 n;
+  ebreak = eqb 11 n;
 }
 
 all_bits : (word : ℕ) → word < 2 ^ 32 → bit_and word 0xffffffff ≡ word
@@ -29,9 +39,16 @@ tests_are_one word h =
     let at : (k : ℕ) → k < 12 → row.meets word (get_or table k row.lui) ≡ eqb k (first_row word table) = meets_one word in
     let all = all_bits word h in
     λ i. record {
-      lui = at 0 (omega arith) i; addi = at 1 (omega arith) i; xori = at 2 (omega arith) i; ori = at 3 (omega arith) i;
-      andi = at 4 (omega arith) i; add = at 5 (omega arith) i; sub = at 6 (omega arith) i; xor = at 7 (omega arith) i;
-      or = at 8 (omega arith) i; and = at 9 (omega arith) i;
+      lui = at 0 (omega arith) i;
+      addi = at 1 (omega arith) i;
+      xori = at 2 (omega arith) i;
+      ori = at 3 (omega arith) i;
+      andi = at 4 (omega arith) i;
+      add = at 5 (omega arith) i;
+      sub = at 6 (omega arith) i;
+      xor = at 7 (omega arith) i;
+      or = at 8 (omega arith) i;
+      and = at 9 (omega arith) i;
       ecall = (ap (λ v. eqb v 0x73) (sym all) ∙ at 10 (omega arith)) i;
       ebreak = (ap (λ v. eqb v 0x100073) (sym all) ∙ at 11 (omega arith)) i;
     }
@@ -39,18 +56,51 @@ tests_are_one word h =
 -- the first row whose test is true
 unfoldable pub picked : Tests → Option Row
 picked t =
-    elim t.lui [ true ↦ Some row.lui | false ↦
-    elim t.addi [ true ↦ Some row.addi | false ↦
-    elim t.xori [ true ↦ Some row.xori | false ↦
-    elim t.ori [ true ↦ Some row.ori | false ↦
-    elim t.andi [ true ↦ Some row.andi | false ↦
-    elim t.add [ true ↦ Some row.add | false ↦
-    elim t.sub [ true ↦ Some row.sub | false ↦
-    elim t.xor [ true ↦ Some row.xor | false ↦
-    elim t.or [ true ↦ Some row.or | false ↦
-    elim t.and [ true ↦ Some row.and | false ↦
-    elim t.ecall [ true ↦ Some row.ecall | false ↦
-    elim t.ebreak [ true ↦ Some row.ebreak | false ↦ None ] ] ] ] ] ] ] ] ] ] ] ]
+    elim t.lui [
+      | true ↦ Some row.lui
+      | false ↦
+          elim t.addi [
+            | true ↦ Some row.addi
+            | false ↦
+                elim t.xori [
+                  | true ↦ Some row.xori
+                  | false ↦
+                      elim t.ori [
+                        | true ↦ Some row.ori
+                        | false ↦
+                            elim t.andi [
+                              | true ↦ Some row.andi
+                              | false ↦
+                                  elim t.add [
+                                    | true ↦ Some row.add
+                                    | false ↦
+                                        elim t.sub [
+                                          | true ↦ Some row.sub
+                                          | false ↦
+                                              elim t.xor [
+                                                | true ↦ Some row.xor
+                                                | false ↦
+                                                    elim t.or [
+                                                      | true ↦ Some row.or
+                                                      | false ↦
+                                                          elim t.and [
+                                                            | true ↦ Some row.and
+                                                            | false ↦
+                                                                elim t.ecall [
+                                                                  | true ↦ Some row.ecall
+                                                                  | false ↦
+                                                                      elim t.ebreak [ true ↦ Some row.ebreak | false ↦ None ]
+                                                                ]
+                                                          ]
+                                                    ]
+                                              ]
+                                        ]
+                                  ]
+                            ]
+                      ]
+                ]
+          ]
+    ]
 
 row_is_picked : (word : ℕ) → word < 2 ^ 32 → row_of (has_row fixed_set) word ≡ picked (tests_of word)
 unfolding picked tests_of

@@ -1,5 +1,5 @@
 -- What the core does in a cycle with a response is a step of the machine that its registers stand for.
-use Rattle.std.proofs.Common.{◌≡◌, ℕ, zero, suc, ◌^◌, ◌<◌, Bool, true, false, cond, not, eqb, List, [], ◌∷◌, ◌&&◌, get_or, set, refl, ap, ◌∙◌, sym, arith, Option, Some, None}
+use Rattle.std.proofs.Common.{◌≡◌, ℕ, zero, suc, ◌^◌, ◌<◌, Bool, true, false, cond, not, eqb, List, [], ◌∷◌, ◌&&◌, get_or, set, refl, ap, ◌∙◌, arith, Option, Some, None}
 use Rattle.std.proofs.Math.Path.{ap₂}
 use Rattle.std.proofs.lemmas.Bool.Decides.{nat_tests}
 use Rattle.core_words.specs.Fields.{rd_of, rs1_of, rs2_of, imm_i, imm_u}
@@ -11,7 +11,7 @@ use Rattle.isa_model.specs.Machine.Fetched.{Word, Error}
 use Rattle.isa_model.specs.Machine.Event.{Retire, Trap}
 use Rattle.isa_model.specs.Step.{Moment, Done, retirement, with_register, behind, outcome_of}
 use Rattle.fixed_core.specs.FixedSet.{fixed_set}
-use Rattle.fixed_core.proofs.Model.{Cycle, tests_of, known, value_by, value_of, a_of, b_of, is_fine, puts, cause_by, cause_of}
+use Rattle.fixed_core.proofs.Model.{Cycle, tests_of, known, value_by, value_of, is_fine, puts, cause_by, cause_of}
 use Rattle.fixed_core.proofs.Decode.{goes_on, halts, word_outcome}
 
 -- ---- register 0: the machine's is 0, and the core's cell 0 is never read

@@ -1,5 +1,5 @@
 -- Each run of the core on honest buses follows the machine.
-use Rattle.std.proofs.Common.{◌≡◌, ℕ, zero, suc, ◌+◌, ◌%◌, ◌^◌, ◌<◌, Bool, true, false, cond, not, eqb, List, [], ◌∷◌, ◌&&◌, ◌||◌, inl, inr, set, get_or, length, refl, ap, ◌∙◌, sym, subst, arith, Option, Some, None, is_some}
+use Rattle.std.proofs.Common.{◌≡◌, ℕ, zero, suc, ◌%◌, ◌<◌, Bool, true, false, cond, not, eqb, List, [], ◌∷◌, ◌&&◌, ◌||◌, inl, inr, set, refl, ap, ◌∙◌, sym, subst, arith, Option, Some, None, is_some}
 use Rattle.std.proofs.Math.Path.{ap₂}
 use Rattle.std.proofs.lemmas.Bool.Decides.{nat_tests}
 use Rattle.core_words.specs.Values.{add_of, one_if}
@@ -15,17 +15,15 @@ use Rattle.isa_model.specs.Machine.{Machine, Fetched, machine_from, misa_of, is_
 use Rattle.isa_model.specs.Machine.Event.{Retire, Trap}
 use Rattle.isa_model.specs.Step.{Done, outcome_of}
 use Rattle.isa_model.specs.Run.{History, now, last_cycle, writes_of, FetchedFrom, Possible, IsUnpressed, Continues, IsRun}
-use Rattle.verilog_mean.specs.Cycle.{State}
-use Rattle.verilog_mean.specs.Run.{Inputs, trace_of, IsInput, IsStart}
 use Rattle.pipe_refine.specs.Follows.{Goes, Follows, moment_at}
 use Rattle.fixed_core.specs.Core.{net_name, core_items, core_module}
 use Rattle.fixed_core.specs.Core as net
 use Rattle.fixed_core.specs.FixedSet.{fixed_set}
 use Rattle.fixed_core.proofs.Bits.{test_is}
-use Rattle.fixed_core.proofs.Model.{Cycle, asks, is_taken, is_done, owed_next, stopped_next, pc_next, value_of, is_fine, puts, cause_of}
+use Rattle.fixed_core.proofs.Model.{Cycle, asks, is_taken, is_done, owed_next, pc_next, value_of, is_fine, puts, cause_of}
 use Rattle.fixed_core.proofs.Executes.{machine_at, fetched_of, did, core_outcome, core_told, word_shown, rd_shown, value_shown}
 use Rattle.fixed_core.proofs.Control.{IsOwed, owed_step, apart_step, asks_again, asks_not_done, waits_by, stands_by, both_true_left, both_true_right, done_not_stopped, or_false, aligned_step, fetched_reply}
-use Rattle.fixed_core.proofs.Run.{Given, run, ib, db, at, word_fits, pc_first, owed_first, stopped_first, x_first, pc_goes, owed_goes, stopped_goes, x_goes, came_shown, ready_shown, error_shown, word_shown_is, event_shown, told_shown, given_shown, accepted_shown, addr_shown, memory_stays, no_writes, data_duties}
+use Rattle.fixed_core.proofs.Run.{Given, run, ib, db, at, word_fits, pc_first, owed_first, stopped_first, x_first, pc_goes, owed_goes, stopped_goes, x_goes, came_shown, error_shown, word_shown_is, event_shown, told_shown, given_shown, accepted_shown, addr_shown, memory_stays, no_writes, data_duties}
 
 -- one more step, or none
 abbrev grow : Bool → (cycle : ℕ) → Done → History → History
@@ -106,9 +104,9 @@ module _ (g : Given) (m : Memory) where
       let told = subst (λ c. Responds fetch_reply (ib g) (memory_at m (db g)) k c) h.1 honest in
       let reply : FetchReply (word_at (memory_at m (db g) j) (on_port (run g) port.ib_cmd_addr j)) (on_port (run g) port.ib_rsp_error k) (on_port (run g) port.ib_rsp_data k) = told.1 valid in
       let here : FetchedFrom m pc (fetched_of (eqb (on_port (run g) port.ib_rsp_error k) 1) (on_port (run g) port.ib_rsp_data k)) =
-          fetched_reply m pc (word_at m pc) _ _ refl
-          (subst (λ a. FetchReply (word_at m a) (on_port (run g) port.ib_rsp_error k) (on_port (run g) port.ib_rsp_data k)) h.2
-          (subst (λ n. FetchReply (word_at n (on_port (run g) port.ib_cmd_addr j)) (on_port (run g) port.ib_rsp_error k) (on_port (run g) port.ib_rsp_data k)) (memory_stays g m j) reply)) in
+      fetched_reply m pc (word_at m pc) _ _ refl
+      (subst (λ a. FetchReply (word_at m a) (on_port (run g) port.ib_rsp_error k) (on_port (run g) port.ib_rsp_data k)) h.2
+      (subst (λ n. FetchReply (word_at n (on_port (run g) port.ib_cmd_addr j)) (on_port (run g) port.ib_rsp_error k) (on_port (run g) port.ib_rsp_data k)) (memory_stays g m j) reply)) in
       subst (λ w. FetchedFrom m pc (fetched_of (at g k).error w)) (word_shown_is g k)
       (subst (λ e. FetchedFrom m pc (fetched_of e (on_port (run g) port.ib_rsp_data k))) (test_is (error_shown g k)) here)
 
@@ -165,7 +163,7 @@ module _ (g : Given) (m : Memory) where
       let c = at g (suc k) in
       let addr = on_port (run g) port.ib_cmd_addr in
       let e : owed (ib g) (suc (suc k)) ≡ cond (is_taken c) (Some (suc k)) (cond c.came None (owed (ib g) (suc k))) =
-          λ i. cond (accepted_shown g k i) (Some (suc k)) (cond (test_is (came_shown g (suc k)) i) None (owed (ib g) (suc k))) in
+      λ i. cond (accepted_shown g k i) (Some (suc k)) (cond (test_is (came_shown g (suc k)) i) None (owed (ib g) (suc k))) in
       subst (λ o. IsOwed addr (at g (suc (suc k))).pc o (owed (ib g) (suc (suc k)))) (sym (owed_goes g k))
       (subst (λ o. IsOwed addr (at g (suc (suc k))).pc (owed_next c) o) (sym e)
       (owed_step addr (suc k) c.pc (at g (suc (suc k))).pc (owed (ib g) (suc k)) c.owed c.stopped c.ready c.came inv.command (addr_shown g (suc k)) (pc_stays k)))
@@ -238,9 +236,9 @@ module _ (g : Given) (m : Memory) where
   repeated k a r =
       let c = at g (suc k) in
       let again : is_given (ib g) (suc (suc k)) ≡ true =
-          given_shown g (suc k) ∙ ap₂ (λ o s. not (o || s)) (owed_goes g k) (stopped_goes g k) ∙ asks_again c.owed c.stopped c.ready c.came (is_fine c) a r in
+      given_shown g (suc k) ∙ ap₂ (λ o s. not (o || s)) (owed_goes g k) (stopped_goes g k) ∙ asks_again c.owed c.stopped c.ready c.came (is_fine c) a r in
       let same : on_port (run g) port.ib_cmd_addr (suc (suc k)) ≡ on_port (run g) port.ib_cmd_addr (suc k) =
-          addr_shown g (suc (suc k)) ∙ pc_stays k (asks_not_done c.owed c.stopped c.came a) ∙ sym (addr_shown g (suc k)) in
+      addr_shown g (suc (suc k)) ∙ pc_stays k (asks_not_done c.owed c.stopped c.came a) ∙ sym (addr_shown g (suc k)) in
       let equal : eqb (on_port (run g) port.ib_cmd_addr (suc (suc k))) (on_port (run g) port.ib_cmd_addr (suc k)) ≡ true = grind (arith, nat_tests) in
       ap₂ (λ g e. g && (true && (e && (true && true)))) again equal
 

@@ -1,5 +1,5 @@
 -- What the core's registers and array hold after a cycle.
-use Rattle.std.proofs.Common.{◌≡◌, ℕ, Bool, cond, not, eqb, List, ◌&&◌, set}
+use Rattle.std.proofs.Common.{◌≡◌, ℕ, cond, not, List, ◌&&◌, set}
 use Rattle.core_words.specs.Fields.{rd_of}
 use Rattle.core_ports.specs.Ports.{name_of}
 use Rattle.verilog_mean.specs.Cycle.{State, next}

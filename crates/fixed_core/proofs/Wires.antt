@@ -1,5 +1,5 @@
 -- Each wire of the core is its function of what the cycle begins with and of the inputs.
-use Rattle.std.proofs.Common.{◌≡◌, ℕ, ◌<◌, Bool, cond, not, eqb, List, ◌&&◌, ◌||◌, bit_and, bit_or, bit_xor, refl, ap, ◌∙◌}
+use Rattle.std.proofs.Common.{◌≡◌, ℕ, ◌<◌, cond, not, eqb, List, ◌&&◌, ◌||◌, bit_and, bit_or, bit_xor, ap, ◌∙◌}
 use Rattle.std.proofs.Math.Path.{ap₂}
 use Rattle.core_words.specs.Values.{add_of, sub_of, bits_of, choose, join_of}
 use Rattle.core_words.specs.Fields.{rd_of, rs1_of, rs2_of, imm_i, imm_u}

@@ -7,5 +7,4 @@ ghost use Rattle.fixed_core.specs.FixedSet.{fixed_set};
 /// contents, each run on honest buses shows the events of one run of the machine, and keeps its duties on both buses.
 pub fn fixed_core_refines()
     ensures { (reset_pc : ℕ) → reset_pc % 4 ≡ 0 → reset_pc < 2 ^ 32 → Refines (core_module reset_pc) fixed_set reset_pc }
-{
-}
+{}
