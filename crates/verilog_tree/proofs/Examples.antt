@@ -89,3 +89,172 @@ computed = refl
 
 has_one_reading : HasOneReading text tree
 has_one_reading = read_text-reads text tree computed
+
+-- ---- neighbours: each pair of texts differs in little, and the first alone reads
+
+-- in a module of its own
+abbrev in_module : List ℕ → List ℕ
+in_module bytes = codes "module m(input clk, input reset, output q);\n" ++ (bytes ++ codes "\nendmodule")
+
+abbrev some_tree : Option Tree → Bool
+some_tree None = false
+some_tree (Some t) = true
+
+abbrev item_reads : List ℕ → Bool
+item_reads bytes = some_tree (read_text (in_module bytes))
+
+abbrev value_reads : List ℕ → Bool
+value_reads bytes = item_reads (codes "wire [7:0] w = " ++ (bytes ++ codes ";"))
+
+abbrev both : Bool → Bool → Bool × Bool
+both a b = (a, b)
+
+abbrev first_alone : Bool × Bool
+first_alone = (true, false)
+
+values :
+    -- a value must be below 2 to the power of its size
+      (both (value_reads (codes "8'hff")) (value_reads (codes "8'h1ff")) ≡ first_alone)
+    -- there are no shifts
+    × (both (value_reads (codes "reset<2'h1")) (value_reads (codes "reset<<2")) ≡ first_alone)
+    -- "~" stands before a primary
+    × (both (value_reads (codes "~(~reset)")) (value_reads (codes "~~reset")) ≡ first_alone)
+    -- a join has a part
+    × (both (value_reads (codes "{reset}")) (value_reads (codes "{}")) ≡ first_alone)
+    × (both (value_reads (codes "{reset, 7'h0}")) (value_reads (codes "{reset, 7'h0, }")) ≡ first_alone)
+    -- a number stands in brackets alone
+    × (both (value_reads (codes "reset[1:0]")) (value_reads (codes "reset[1]")) ≡ first_alone)
+    × (both (value_reads (codes "4'd10")) (value_reads (codes "10")) ≡ first_alone)
+    -- signs of two bytes
+    × (both (value_reads (codes "reset & ~reset")) (value_reads (codes "reset & & reset")) ≡ first_alone)
+    × (both (value_reads (codes "reset & ~reset")) (value_reads (codes "reset && reset")) ≡ first_alone)
+unfolding tokens_of token_at is_reserved grammar_words unsupported_words parse goes_on operation choice selection cell paren negated joined parts module_of pair range expr driver driven optional_wire port_of port ports wire reg assign next_value reset_behind write_behind conditional stmt always item items shape-the_row-Expr-0 hidden-the_row-Expr-0 shape-the_row-Expr-1 hidden-the_row-Expr-1 hidden read_text
+values = (refl, refl, refl, refl, refl, refl, refl, refl, refl)
+
+items_and_modules :
+    -- a name is no reserved word; "clk" and "reset" are names
+      (both (item_reads (codes "wire four = reset;")) (item_reads (codes "wire for = reset;")) ≡ first_alone)
+    × (both (item_reads (codes "wire clk;")) (item_reads (codes "wire wire;")) ≡ first_alone)
+    -- a number has nine digits at most
+    × (both (item_reads (codes "reg m [0:123456789];")) (item_reads (codes "reg m [0:1234567890];")) ≡ first_alone)
+    -- a reset begins with a literal
+    × (both (item_reads (codes "always @(posedge clk) if (reset) r <= 1'h0; else r <= q;")) (item_reads (codes "always @(posedge clk) if (reset) r <= q; else r <= q;")) ≡ first_alone)
+    -- only "reset" alone is one
+    × (both (item_reads (codes "always @(posedge clk) if (reset) r <= 1'h0; else r <= q;")) (item_reads (codes "always @(posedge clk) if ((reset)) r <= 1'h0; else r <= q;")) ≡ first_alone)
+    × (both (item_reads (codes "always @(posedge clk) if (reset) m[q] <= q;")) (item_reads (codes "always @(posedge clk) if (q) m <= q;")) ≡ first_alone)
+    -- a comment ends
+    × (both (item_reads (codes "/* wire w; */")) (item_reads (codes "/* wire w; /")) ≡ first_alone)
+    × (both (item_reads (codes "/*/ wire w */")) (item_reads (codes "/*/ wire w;")) ≡ first_alone)
+    -- "endmodule" is the last word
+    × (both (some_tree (read_text (codes "module m(input a); endmodule // m"))) (some_tree (read_text (codes "module m(input a);"))) ≡ first_alone)
+    × (both (some_tree (read_text (codes "module m(input a); endmodule"))) (some_tree (read_text (codes "module m(input a); endmodule;"))) ≡ first_alone)
+    -- a module has a port
+    × (both (some_tree (read_text (codes "module m(input a); endmodule"))) (some_tree (read_text (codes "module m(); endmodule"))) ≡ first_alone)
+unfolding tokens_of token_at is_reserved grammar_words unsupported_words parse goes_on operation choice selection cell paren negated joined parts module_of pair range expr driver driven optional_wire port_of port ports wire reg assign next_value reset_behind write_behind conditional stmt always item items shape-the_row-Expr-0 hidden-the_row-Expr-0 shape-the_row-Expr-1 hidden-the_row-Expr-1 hidden read_text
+items_and_modules = (refl, refl, refl, refl, refl, refl, refl, refl, refl, refl, refl)
+
+-- some bytes n times
+abbrev repeated : ℕ → List ℕ → List ℕ
+repeated zero bytes = []
+repeated (suc n) bytes = bytes ++ repeated n bytes
+
+abbrev in_parentheses : ℕ → List ℕ
+in_parentheses n = repeated n (codes "(") ++ (codes "reset" ++ repeated n (codes ")"))
+
+-- a name in 63 parentheses is 64 deep
+depth : both (value_reads (in_parentheses 63)) (value_reads (in_parentheses 64)) ≡ first_alone
+unfolding tokens_of token_at is_reserved grammar_words unsupported_words parse goes_on operation choice selection cell paren negated joined parts module_of pair range expr driver driven optional_wire port_of port ports wire reg assign next_value reset_behind write_behind conditional stmt always item items shape-the_row-Expr-0 hidden-the_row-Expr-0 shape-the_row-Expr-1 hidden-the_row-Expr-1 hidden read_text
+depth = refl
+
+-- what is not computed has no tree
+none_with_for : (t : Tree) → Reads (in_module (codes "wire for = reset;")) t → ⊥
+unfolding tokens_of token_at is_reserved grammar_words unsupported_words parse goes_on operation choice selection cell paren negated joined parts module_of pair range expr driver driven optional_wire port_of port ports wire reg assign next_value reset_behind write_behind conditional stmt always item items shape-the_row-Expr-0 hidden-the_row-Expr-0 shape-the_row-Expr-1 hidden-the_row-Expr-1 hidden read_text
+none_with_for = read_text-none (in_module (codes "wire for = reset;")) refl
+
+-- ---- how operators group
+
+abbrev only : Result (Expr × List Placed) Stop → Option Expr
+only (Ok (e, [])) = Some e
+only (Ok (e, (t ∷ ts))) = None
+only (Err s) = None
+
+abbrev on_tokens : Option (List Placed) → Option Expr
+on_tokens None = None
+on_tokens (Some ts) = only (expr ts)
+
+abbrev expr_of : List ℕ → Option Expr
+expr_of bytes = on_tokens (tokens_of (suc (length bytes)) (length bytes) bytes)
+
+abbrev a : ℕ → Expr
+a at = Named (ident at (codes "a"))
+
+grouping :
+      (expr_of (codes "a & a == a") ≡ Some (Binary bin.And 2 (a 0) (Binary bin.Equal 6 (a 4) (a 9))))
+    × (expr_of (codes "a == a & a") ≡ Some (Binary bin.And 7 (Binary bin.Equal 2 (a 0) (a 5)) (a 9)))
+    × (expr_of (codes "a - a - a") ≡ Some (Binary bin.Minus 6 (Binary bin.Minus 2 (a 0) (a 4)) (a 8)))
+    × (expr_of (codes "a + a < a") ≡ Some (Binary bin.Less 6 (Binary bin.Plus 2 (a 0) (a 4)) (a 8)))
+    × (expr_of (codes "a | a ^ a") ≡ Some (Binary bin.Or 2 (a 0) (Binary bin.Xor 6 (a 4) (a 8))))
+    × (expr_of (codes "~a + a") ≡ Some (Binary bin.Plus 3 (Not 0 (a 1)) (a 5)))
+    × (expr_of (codes "a ? a : a ? a : a") ≡ Some (Choice 2 6 (a 0) (a 4) (Choice 10 14 (a 8) (a 12) (a 16))))
+unfolding tokens_of token_at is_reserved grammar_words unsupported_words parse goes_on operation choice selection cell paren negated joined parts module_of pair range expr driver driven optional_wire port_of port ports wire reg assign next_value reset_behind write_behind conditional stmt always item items shape-the_row-Expr-0 hidden-the_row-Expr-0 shape-the_row-Expr-1 hidden-the_row-Expr-1 hidden read_text
+grouping = (refl, refl, refl, refl, refl, refl, refl)
+
+-- ---- tokens
+
+abbrev lexemes : List Placed → List Lexeme
+lexemes [] = []
+lexemes (t ∷ ts) = t.lexeme ∷ lexemes ts
+
+abbrev said : Option (List Placed) → Option (List Lexeme)
+said None = None
+said (Some ts) = Some (lexemes ts)
+
+abbrev lexemes_of : List ℕ → Option (List Lexeme)
+lexemes_of bytes = said (tokens_of (suc (length bytes)) (length bytes) bytes)
+
+abbrev b : Lexeme
+b = Word (codes "b")
+
+signs :
+      (lexemes_of (codes "b<=b") ≡ Some (b ∷ Mark sign.LessEqual ∷ b ∷ []))
+    × (lexemes_of (codes "b<b") ≡ Some (b ∷ Mark sign.Less ∷ b ∷ []))
+    × (lexemes_of (codes "b<<b") ≡ None)
+    × (lexemes_of (codes "b==b") ≡ Some (b ∷ Mark sign.Equal ∷ b ∷ []))
+    × (lexemes_of (codes "b<==b") ≡ Some (b ∷ Mark sign.LessEqual ∷ Mark sign.Assign ∷ b ∷ []))
+    × (lexemes_of (codes "b===b") ≡ None)
+    × (lexemes_of (codes "b^~b") ≡ None)
+    × (lexemes_of (codes "b^ ~b") ≡ Some (b ∷ Mark sign.Xor ∷ Mark sign.Not ∷ b ∷ []))
+    × (lexemes_of (codes "~|b") ≡ None)
+    × (lexemes_of (codes "b*b") ≡ None)
+unfolding tokens_of token_at
+signs = (refl, refl, refl, refl, refl, refl, refl, refl, refl, refl)
+
+numbers :
+      (lexemes_of (codes "12'h0_fF") ≡ Some (Sized 12 255 ∷ []))
+    × (lexemes_of (codes "8'b12") ≡ Some (Sized 8 1 ∷ Number 2 ∷ []))
+    × (lexemes_of (codes "3'O7 4'D10") ≡ Some (Sized 3 7 ∷ Sized 4 10 ∷ []))
+    × (lexemes_of (codes "64'hffffffffffffffff") ≡ Some (Sized 64 18446744073709551615 ∷ []))
+    × (lexemes_of (codes "65'h1") ≡ None)
+    × (lexemes_of (codes "08'h1") ≡ None)
+    × (lexemes_of (codes "8'_1") ≡ None)
+    × (lexemes_of (codes "8 'h1") ≡ None)
+    × (lexemes_of (codes "007b") ≡ Some (Number 7 ∷ b ∷ []))
+unfolding tokens_of token_at
+numbers = (refl, refl, refl, refl, refl, refl, refl, refl, refl)
+
+words :
+      (lexemes_of (codes "_b$1 $") ≡ None)
+    × (lexemes_of (codes "_b$1") ≡ Some (Word (codes "_b$1") ∷ []))
+    × (lexemes_of (repeated 255 (codes "b")) ≡ Some (Word (repeated 255 (codes "b")) ∷ []))
+    × (lexemes_of (repeated 256 (codes "b")) ≡ None)
+unfolding tokens_of token_at
+words = (refl, refl, refl, refl)
+
+blanks :
+      (skipped Between (codes " \t\n\r/* * / **/b") ≡ Some (codes "b"))
+    × (skipped Between (codes "// b\n b") ≡ Some (codes "b"))
+    × (skipped Between (codes "// b") ≡ Some [])
+    × (skipped Between (codes "/*/b") ≡ None)
+    × (skipped Between (codes "/*/b*/") ≡ Some [])
+    × (skipped Between (codes "/ /b") ≡ Some (codes "/ /b"))
+blanks = (refl, refl, refl, refl, refl, refl)
