@@ -1,11 +1,13 @@
 -- Texts that are computed: what reads as which tree, and what does not read.
-use Rattle.std.proofs.Common.{◌≡◌, ℕ, zero, suc, ◌+◌, ◌^◌, ◌<◌, Bool, true, false, List, [], ◌∷◌, ◌++◌, length, Option, Some, None, Result, Ok, Err, refl}
+use Rattle.std.proofs.Common.{◌≡◌, ℕ, zero, suc, ◌+◌, ◌^◌, ◌<◌, Bool, true, false, List, [], ◌∷◌, ◌++◌, length, Option, Some, None, Result, Ok, Err, refl, arith}
 use Rattle.std.specs.Prelude.{codes}
 use Rattle.verilog_tree.specs.Signs as sign
 use Rattle.verilog_tree.specs.Lexemes.{Lexeme, Word, Number, Sized, Mark, Placed}
 use Rattle.verilog_tree.specs.Blanks.{Between, skipped}
-use Rattle.verilog_tree.specs.Lex.{token_at}
+use Rattle.verilog_tree.specs.Lex.{token_at, HasTokens}
 use Rattle.verilog_tree.specs.TokensOf.{tokens_of}
+use Rattle.verilog_tree.specs.TokensAhead.{tokens_ahead}
+use Rattle.verilog_tree.specs.Hex.{literal_bytes}
 use Rattle.verilog_tree.specs.Words.{is_reserved, grammar_words, unsupported_words}
 use Rattle.verilog_tree.specs.Readers.{Stop}
 use Rattle.verilog_tree.specs.Parse.{parse, goes_on, operation, choice, selection, cell, paren, negated, joined, parts}
@@ -24,7 +26,8 @@ use Rattle.verilog_tree.specs.declared.tree.Stmt.TheVariants.{Next, Reset, Write
 use Rattle.verilog_tree.specs.declared.tree.Item.TheVariants.{Wire, Reg, Assign, Always}
 use Rattle.verilog_tree.specs.declared.tree.Tree.{Tree}
 use Rattle.verilog_tree.specs.Module.{Reads, HasOneReading}
-use Rattle.verilog_tree.proofs.Readings.{read_text-reads, read_text-none}
+use Rattle.verilog_tree.proofs.Pieces.{tokens_ahead-append}
+use Rattle.verilog_tree.proofs.Readings.{read_text-reads, read_text-none, read_around-reads}
 
 abbrev pub ident : ℕ → List ℕ → Ident
 ident at text = record { at = at; text = text }
@@ -258,3 +261,53 @@ blanks :
     × (skipped Between (codes "/*/b*/") ≡ Some [])
     × (skipped Between (codes "/ /b") ≡ Some (codes "/ /b"))
 blanks = (refl, refl, refl, refl, refl, refl)
+
+-- ---- a text with a variable inside
+
+-- 230 bytes, several tokens and lines, and a space at the end
+abbrev before : List ℕ
+before =
+    codes "module counter(input clk, input reset, output [31:0] pc_out);\n" ++ (
+    codes "  // counts in fours, from a value that is set once\n" ++ (
+    codes "  reg [31:0] pc;\n" ++ (
+    codes "  wire [31:0] next_pc = pc + 32'd4;\n" ++ (
+    codes "  assign pc_out = pc;\n" ++ (
+    codes "  always @(posedge clk) if (reset) pc <= ")))))
+
+abbrev after : List ℕ
+after =
+    codes "; else pc <= next_pc;\n" ++ (
+    codes "endmodule\n")
+
+abbrev counter : ℕ → Tree
+counter v = record {
+  at = 0;
+  name = ident 7 (codes "counter");
+  ports =
+    declared 15 true None (ident 21 (codes "clk")) ∷
+    declared 26 true None (ident 32 (codes "reset")) ∷
+    declared 39 false (Some (span 46 47 31 50 0)) (ident 53 (codes "pc_out")) ∷ [];
+  items =
+    Reg 116 (Some (span 120 121 31 124 0)) (ident 127 (codes "pc")) None ∷
+    Wire 133 (Some (span 138 139 31 142 0)) (ident 145 (codes "next_pc")) (Some (gives 153 (Binary bin.Plus 158 (Named (ident 155 (codes "pc"))) (Literal (lit 160 32 4))))) ∷
+    Assign 169 (ident 176 (codes "pc_out")) (gives 183 (Named (ident 185 (codes "pc")))) ∷
+    Always 191 (Reset 213 (ident 224 (codes "pc")) 227 (lit 230 32 v) (ident 249 (codes "pc")) (gives 252 (Named (ident 255 (codes "next_pc"))))) ∷ [];
+}
+
+-- the text has this tree whatever the value is
+any_value : (v : ℕ) → v < 2 ^ 32 → HasOneReading (before ++ (literal_bytes v ++ after)) (counter v)
+unfolding tokens_of token_at is_reserved grammar_words unsupported_words parse goes_on operation choice selection cell paren negated joined parts module_of pair range expr driver driven optional_wire port_of port ports wire reg assign next_value reset_behind write_behind conditional stmt always item items shape-the_row-Expr-0 hidden-the_row-Expr-0 shape-the_row-Expr-1 hidden-the_row-Expr-1 hidden read_text tokens_ahead
+any_value v lt = read_around-reads v before after (counter v) lt refl refl
+
+abbrev some_tokens : Option (List Placed) → List Placed
+some_tokens None = []
+some_tokens (Some ts) = ts
+
+abbrev tokens_before : List Placed
+unfolding token_at tokens_ahead
+tokens_before = some_tokens (tokens_ahead 230 230 before)
+
+-- the tokens of the front stand before those of any rest
+any_rest : (rest : List ℕ) (us : List Placed) → HasTokens (230 + length rest) rest us → HasTokens (230 + length rest) (before ++ rest) (tokens_before ++ us)
+unfolding token_at tokens_ahead
+any_rest rest us h = tokens_ahead-append 230 230 (230 + length rest) before rest tokens_before us (omega arith) refl refl h
