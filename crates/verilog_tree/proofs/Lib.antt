@@ -7,4 +7,7 @@ pub mod ModuleIsRead
 pub mod ModuleIsSpelled
 pub mod Scans
 pub mod TokenList
+pub mod LiteralToken
+pub mod Pieces
 pub mod Readings
+pub mod Examples

@@ -19,6 +19,7 @@ use Rattle.verilog_tree.specs.Bytes.{choose}
 use Rattle.verilog_tree.specs.Words.{same_bytes, is_reserved}
 use Rattle.verilog_tree.specs.Readers.{Stop, Wrong, ◌>>=◌, Reader, expect, is_mark, number}
 use Rattle.verilog_tree.specs.Parse.{parse}
+use Rattle.verilog_tree.specs.TokensOf.{tokens_of}
 
 -- ---- words
 
@@ -181,3 +182,17 @@ module_of n ts = keyword (codes "module") ts >>= λ at. name at.1 >>= λ i. expe
 -- the module that all of the tokens spell
 abbrev pub read : List Placed → Result Tree Stop
 read ts = finished (module_of (length ts) ts)
+
+-- ---- the text
+
+abbrev pub made : Result Tree Stop → Option Tree
+made (Ok t) = Some t
+made (Err s) = None
+
+abbrev pub read_tokens : Option (List Placed) → Option Tree
+read_tokens None = None
+read_tokens (Some ts) = made (read ts)
+
+-- the tree of a text, given its bytes
+unfoldable pub read_text : List ℕ → Option Tree
+read_text bytes = read_tokens (tokens_of (suc (length bytes)) (length bytes) bytes)
