@@ -1,0 +1,2 @@
+pub mod CoreTree
+pub mod CoreSound
