@@ -1,2 +1,3 @@
 pub mod CoreTree
 pub mod CoreSound
+pub mod Ordered

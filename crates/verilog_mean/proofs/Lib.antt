@@ -1,1 +1,4 @@
 pub mod SoundExamples
+pub mod Ordered
+pub mod Driven
+pub mod NoLoop
