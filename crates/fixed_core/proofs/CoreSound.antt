@@ -1,5 +1,5 @@
 -- The tree of the fixed core is sound, and its module is the one that refines the machine.
-use Rattle.std.proofs.Common.{◌≡◌, ℕ, [], refl}
+use Rattle.std.proofs.Common.{◌≡◌, ℕ, [], refl, sym, subst}
 use Rattle.core_ports.specs.Ports.{name_of}
 use Rattle.fixed_core.specs.Core.{net_name, core_ports, core_items, core_module}
 use Rattle.verilog_tree.specs.Lex.{token_at}
@@ -16,6 +16,10 @@ use Rattle.verilog_mean.specs.Kinds.{kinds_differ}
 use Rattle.verilog_mean.specs.Widths.{selects_outside, widths_differ}
 use Rattle.verilog_mean.specs.Drivers.{drivers_twice, drivers_missing}
 use Rattle.verilog_tree.specs.declared.tree.Tree.{Tree}
+use Rattle.verilog_mean.specs.Loops.{HasNoLoop}
+use Rattle.verilog_mean.specs.Sound.{IsSound}
+use Rattle.verilog_mean.proofs.NoLoop.{ordered_no_loop}
+use Rattle.fixed_core.proofs.Ordered.{core_is_ordered}
 use Rattle.fixed_core.proofs.CoreTree.{front, front_tokens, back_tokens, all_tokens, core_tree}
 
 -- what is computed of the tree: its module without places, and that no list of refusals has one
@@ -36,3 +40,18 @@ computed reset_pc = record { plain = refl; names_once = refl; sizes = refl; name
 
 pub core_tree_plain : (reset_pc : ℕ) → plain_tree (core_tree reset_pc) ≡ core_module reset_pc
 core_tree_plain reset_pc = (computed reset_pc).plain
+
+pub core_is_sound : (reset_pc : ℕ) → IsSound (core_tree reset_pc)
+core_is_sound reset_pc =
+    let c = computed reset_pc in
+    record {
+      names_once = c.names_once;
+      sizes = c.sizes;
+      names_known = c.names_known;
+      kinds = c.kinds;
+      selects = c.selects;
+      widths = c.widths;
+      drivers_once = c.drivers_once;
+      driven = c.driven;
+      no_loop = subst HasNoLoop (sym c.plain) (ordered_no_loop (core_module reset_pc) (core_is_ordered reset_pc));
+    }
