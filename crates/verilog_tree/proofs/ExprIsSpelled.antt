@@ -1,5 +1,5 @@
--- What is read is in the grammar.
-use Rattle.std.proofs.Common.{◌≡◌, ℕ, zero, suc, ◌+◌, ◌<◌, ◌≤◌, max, Bool, true, false, List, [], ◌∷◌, length, Option, Some, None, Result, Ok, Err, refl, sym, ap, subst, ◌∙◌, arith, leb}
+-- An expression that is read is spelled by the tokens that were read.
+use Rattle.std.proofs.Common.{◌≡◌, ℕ, zero, suc, ◌<◌, ◌≤◌, Bool, true, false, List, [], ◌∷◌, length, Result, Ok, Err, refl, sym, ap, subst, ◌∙◌, arith, leb}
 use Rattle.std.proofs.lemmas.Bool.{leb-true, leb-false}
 use Rattle.verilog_tree.specs.declared.expr.BinSign.{BinSign}
 use Rattle.verilog_tree.specs.declared.expr.BinSign.TheVariants as bin
@@ -8,14 +8,14 @@ use Rattle.verilog_tree.specs.Signs as sign
 use Rattle.verilog_tree.specs.Lexemes.{Lexeme, Word, Number, Sized, Mark, Placed}
 use Rattle.verilog_tree.specs.declared.expr.Ident.{Ident}
 use Rattle.verilog_tree.specs.declared.expr.Num.{Num}
-use Rattle.verilog_tree.specs.declared.expr.Expr.{Expr, Literal, Named, Select, Cell', Paren', Not', Join', Binary', Choice', Row_of-Expr, end_of-Expr, more_of-Expr, items-the_row-Expr}
+use Rattle.verilog_tree.specs.declared.expr.Expr.{Expr, Literal, Named, Select, Join', Row_of-Expr, end_of-Expr, more_of-Expr, items-the_row-Expr}
 use Rattle.verilog_tree.specs.declared.expr.Expr.TheVariants.{Cell, Paren, Not, Join, Binary, Choice}
 use Rattle.verilog_tree.specs.Words.{is_reserved}
 use Rattle.verilog_tree.specs.Depth.{depth_of, deepest}
-use Rattle.verilog_tree.specs.Grammar.{Spells, SpellsParts, SpellsPair, level, level_of, sign_of, mark, name_token, number_token, literal_token}
+use Rattle.verilog_tree.specs.Grammar.{Spells, SpellsParts, level, level_of, sign_of, mark, name_token, number_token}
 use Rattle.verilog_tree.specs.Readers.{Stop, Wrong, Deep, ◌>>=◌, same_sign, is_mark, expect, expect_at, number, number_at}
-use Rattle.verilog_tree.specs.Parse.{Read, Parser, Next, Operator, Question, Nothing, next, next_at, operator, either_way, selection, cell, indexed, indexed_at, named, named_at, Parts, parts_after, parts_behind, parts, paren, negated, joined, word_at, start, start_at, choice, operation, goes_at, goes_on, parse}
-use Rattle.verilog_tree.specs.declared.expr.Expr.TheBlock.{shape-the_row-Expr-0, hidden-the_row-Expr-0, shape-the_row-Expr-1, hidden-the_row-Expr-1}
+use Rattle.verilog_tree.specs.Parse.{Read, Parser, Next, Operator, Question, Nothing, next, next_at, either_way, selection, cell, indexed, indexed_at, named, named_at, Parts, parts_after, parts_behind, parts, paren, negated, joined, word_at, start, start_at, choice, operation, goes_at, goes_on, parse}
+use Rattle.verilog_tree.specs.declared.expr.Expr.TheBlock.{shape-the_row-Expr-0, hidden-the_row-Expr-0}
 use denote.Hole.Carrier.{hidden}
 use mathlib.Core.Former.{this, arity}
 use Rattle.sqlite_items.specs.formers.items.Items.{the_former}
@@ -385,7 +385,6 @@ module _ (part : ℕ → Parser) (d : ℕ) (sound : IsSound part d) where
   goes_on_sound n zero ts left us x l h = absurd cc
   goes_on_sound n (suc t) ts left us x l h = goes_at_sound n (goes_on part d n t) ts left (next us) us x (λ e vs y k h. goes_on_sound n t ts e vs y k h) refl l h
 
--- what is read is spelled so
 parse_sound : (d : ℕ) → IsSound (parse d) d
 unfolding parse
 parse_sound zero = record { all = λ n l ts x h. absurd cc }
@@ -396,5 +395,6 @@ parse_sound (suc d) = record {
       goes_on_sound (parse d) d (parse_sound d) n (suc d) ts first.0 first.1 x (record { spells = o.spells; levels = o.levels; some = omega (arith, o.high); deep = o.deep; stops = high_stops (suc (level first.0)) (next first.1) (omega (arith, o.high)) }) h';
 }
 
-pub sound : (d : ℕ) (ts : List Placed) (e : Expr) (rest : List Placed) → parse d 0 ts ≡ Ok (e, rest) → Good 0 d ts e rest
-sound d ts e rest h = (parse_sound d).all 0 (omega arith) ts (e, rest) h
+-- What is read is spelled.
+pub parse-spells : (d : ℕ) (ts : List Placed) (e : Expr) (rest : List Placed) → parse d 0 ts ≡ Ok (e, rest) → Good 0 d ts e rest
+parse-spells d ts e rest h = (parse_sound d).all 0 (omega arith) ts (e, rest) h

@@ -1,10 +1,10 @@
--- A text has at most one tree.
-use Rattle.std.proofs.Common.{◌≡◌, ℕ, zero, suc, ◌+◌, ◌<◌, ◌≤◌, Bool, true, false, ◌&&◌, List, [], ◌∷◌, length, Option, Some, None, Result, Ok, Err, refl, sym, ap, subst, ◌∙◌, arith, eqb, ◌⊎◌, inl, inr}
+-- A module that the tokens spell is read from them. So a text has at most one tree.
+use Rattle.std.proofs.Common.{◌≡◌, ℕ, zero, suc, ◌+◌, ◌<◌, ◌≤◌, Bool, true, false, ◌&&◌, List, [], ◌∷◌, length, Option, Some, None, Ok, refl, sym, ap, subst, ◌∙◌, arith, eqb, inl, inr}
 use Rattle.std.specs.Prelude.{codes}
 use Rattle.std.proofs.lemmas.Bool.{eqb-true}
 use Rattle.verilog_tree.specs.Signs.{Sign}
 use Rattle.verilog_tree.specs.Signs as sign
-use Rattle.verilog_tree.specs.Lexemes.{Lexeme, Word, Number, Sized, Mark, Placed}
+use Rattle.verilog_tree.specs.Lexemes.{Word, Placed}
 use Rattle.verilog_tree.specs.declared.expr.Ident.{Ident}
 use Rattle.verilog_tree.specs.declared.expr.Lit.{Lit}
 use Rattle.verilog_tree.specs.declared.expr.Pair.{Pair}
@@ -18,15 +18,13 @@ use Rattle.verilog_tree.specs.declared.tree.Item.{Item}
 use Rattle.verilog_tree.specs.declared.tree.Item.TheVariants.{Wire, Reg, Assign, Always}
 use Rattle.verilog_tree.specs.declared.tree.Tree.{Tree}
 use Rattle.verilog_tree.specs.Bytes.{choose}
-use Rattle.verilog_tree.specs.Lex.{HasTokens}
-use Rattle.verilog_tree.specs.Words.{same_bytes, is_among, grammar_words, unsupported_words, is_reserved}
-use Rattle.verilog_tree.specs.Grammar.{Spells, SpellsPair, mark, name_token, literal_token, IsName}
+use Rattle.verilog_tree.specs.Words.{same_bytes, grammar_words, unsupported_words, is_reserved}
+use Rattle.verilog_tree.specs.Grammar.{SpellsPair, mark, name_token, literal_token, IsName}
 use Rattle.verilog_tree.specs.Module as spec
 use Rattle.verilog_tree.specs.Module.{SpellsExpr, SpellsRange, SpellsWire, SpellsPort, SpellsPorts, SpellsDriver, SpellsDriven, SpellsStmt, SpellsItem, SpellsItems, SpellsModule, direction}
-use Rattle.verilog_tree.specs.Readers.{Stop, Wrong, Deep, ◌>>=◌, expect, number, is_mark, Reader}
-use Rattle.verilog_tree.specs.Parse.{parse}
-use Rattle.verilog_tree.specs.Read.{is_word, keyword, name, by_next, pair, range, expr, driver, driven, optional_wire, port_of, port, ports_behind, ports, wire, reg, assign, next_value, literal, is_reset, reset_behind, write_behind, conditional, stmt, always, item, items, at_end, finished, module_of, read}
-use Rattle.verilog_tree.proofs.ExprIsRead.{Ends, complete, shorter, pair_shorter}
+use Rattle.verilog_tree.specs.Readers.{◌>>=◌, is_mark, Reader}
+use Rattle.verilog_tree.specs.Read.{is_word, name, by_next, pair, range, expr, driver, driven, optional_wire, port_of, port, ports, wire, reg, assign, next_value, is_reset, reset_behind, write_behind, conditional, stmt, always, item, items, module_of, read}
+use Rattle.verilog_tree.proofs.ExprIsRead.{Ends, parse-is, shorter, pair_shorter}
 use Rattle.verilog_tree.proofs.OneList.{one_list}
 
 -- ---- names are no words of the grammar
@@ -90,7 +88,7 @@ range_yes (Some p) ts rest (colon, close, h) k = rw (h, pair_yes p _ rest (colon
 
 expr_yes : (e : Expr) (ts rest : List Placed) → SpellsExpr e ts rest → Ends 0 rest → expr ts ≡ Ok (e, rest)
 unfolding expr
-expr_yes e ts rest h f = complete e 64 ts rest h.0 h.1 f
+expr_yes e ts rest h f = parse-is e 64 ts rest h.0 h.1 f
 
 assign_yes : (d : Driver) (ts rest : List Placed) → SpellsDriver sign.Assign d ts rest → driver sign.Assign ts ≡ Ok (d, rest)
 unfolding driver
@@ -250,20 +248,20 @@ items_short (i ∷ is) ts rest (mid, h, k) = omega (arith, item_short i ts mid h
 
 -- ---- the module
 
-pub module_yes : (t : Tree) (n : ℕ) (ts : List Placed) → SpellsModule t ts → length ts ≤ n → module_of n ts ≡ Ok (t, [])
+pub module_of-is : (t : Tree) (n : ℕ) (ts : List Placed) → SpellsModule t ts → length ts ≤ n → module_of n ts ≡ Ok (t, [])
 unfolding module_of
-module_yes t n ts (a, b, paren, semicolon, end, f, h, k, l) fits =
+module_of-is t n ts (a, b, paren, semicolon, end, f, h, k, l) fits =
     let long : length ts ≡ suc (suc (suc (length a))) = ap length h in
     let a-long = ports_short t.ports a (mark semicolon sign.Semicolon ∷ b) k in
     let b-long = items_short t.items b (spec.keyword end (codes "endmodule") ∷ []) l in
     rw (h, f, ports_yes t.ports n a (mark semicolon sign.Semicolon ∷ b) k (omega arith), items_yes t.items n b [] end l (omega arith)) refl
 
--- what the grammar spells is read
-pub read_yes : (t : Tree) (ts : List Placed) → SpellsModule t ts → read ts ≡ Ok t
-read_yes t ts h = rw (module_yes t (length ts) ts h (omega arith)) refl
+-- What is spelled is read.
+pub read-is : (t : Tree) (ts : List Placed) → SpellsModule t ts → read ts ≡ Ok t
+read-is t ts h = rw (module_of-is t (length ts) ts h (omega arith)) refl
 
 pub one_tree_of_tokens : (t u : Tree) (ts : List Placed) → SpellsModule t ts → SpellsModule u ts → t ≡ u
-one_tree_of_tokens t u ts h k = let a = read_yes t ts h in let b = read_yes u ts k in cc
+one_tree_of_tokens t u ts h k = let a = read-is t ts h in let b = read-is u ts k in cc
 
 -- A text has at most one tree.
 pub one_tree : (bytes : List ℕ) (t u : Tree) → spec.Reads bytes t → spec.Reads bytes u → t ≡ u

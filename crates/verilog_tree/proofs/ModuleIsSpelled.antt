@@ -1,5 +1,5 @@
--- What is read as a module is spelled so.
-use Rattle.std.proofs.Common.{◌≡◌, ℕ, zero, suc, ◌+◌, ◌<◌, ◌≤◌, Bool, true, false, List, [], ◌∷◌, length, Option, Some, None, Result, Ok, Err, refl, sym, ap, subst, ◌∙◌, arith, ◌⊎◌, inl, inr}
+-- A module that is read is spelled by the tokens.
+use Rattle.std.proofs.Common.{◌≡◌, ℕ, zero, suc, Bool, true, false, List, [], ◌∷◌, length, Option, Some, None, Result, Ok, Err, refl, sym, ap, subst, ◌∙◌, ◌⊎◌, inl, inr}
 use Rattle.std.specs.Prelude.{codes}
 use Rattle.verilog_tree.specs.Signs.{Sign}
 use Rattle.verilog_tree.specs.Signs as sign
@@ -12,19 +12,18 @@ use Rattle.verilog_tree.specs.declared.tree.PortDecl.{PortDecl}
 use Rattle.verilog_tree.specs.declared.tree.Item.{Item}
 use Rattle.verilog_tree.specs.declared.tree.Item.TheVariants.{Wire, Reg, Assign, Always}
 use Rattle.verilog_tree.specs.Bytes.{choose}
-use Rattle.verilog_tree.specs.Words.{same_bytes, is_reserved}
-use Rattle.verilog_tree.specs.Grammar.{Spells, SpellsPair, mark, name_token, number_token, literal_token, IsName}
+use Rattle.verilog_tree.specs.Words.{is_reserved}
+use Rattle.verilog_tree.specs.Grammar.{SpellsPair, mark, name_token, number_token, literal_token, IsName}
 use Rattle.verilog_tree.specs.Module as spec
 use Rattle.verilog_tree.specs.Module.{SpellsExpr, SpellsRange, SpellsWire, SpellsPort, SpellsPorts, SpellsDriver, SpellsDriven, SpellsStmt, SpellsItem, SpellsItems, SpellsModule, direction}
-use Rattle.verilog_tree.specs.Readers.{Stop, Wrong, Deep, ◌>>=◌, expect, number, is_mark, Reader}
-use Rattle.verilog_tree.specs.Parse.{parse}
+use Rattle.verilog_tree.specs.Readers.{Stop, ◌>>=◌, expect, is_mark, Reader}
 use Rattle.verilog_tree.specs.declared.expr.Lit.{Lit}
-use Rattle.verilog_tree.specs.declared.expr.Expr.TheVariants.{Literal, Named, Select, Cell, Paren, Not, Join, Binary, Choice}
+use Rattle.verilog_tree.specs.declared.expr.Expr.TheVariants.{Named}
 use Rattle.verilog_tree.specs.declared.tree.Stmt.{Stmt}
 use Rattle.verilog_tree.specs.declared.tree.Stmt.TheVariants.{Next, Reset, Write}
 use Rattle.verilog_tree.specs.declared.tree.Tree.{Tree}
-use Rattle.verilog_tree.specs.Read.{next_value, literal, literal_at, is_reset, reset_behind, write_behind, conditional, stmt, always, item, items, at_end, finished, module_of, read, is_word, keyword, keyword_at, name, name_at, name_by, by_next, next_is, pair, range, expr, driver, driven, optional_wire, port_of, port, ports_behind, ports, wire, reg, assign}
-use Rattle.verilog_tree.proofs.ExprIsSpelled.{bind_ok, ok_is, expect-ok, number-ok, sound}
+use Rattle.verilog_tree.specs.Read.{next_value, literal, literal_at, is_reset, reset_behind, write_behind, conditional, stmt, always, item, items, finished, module_of, read, is_word, keyword, keyword_at, name, name_at, name_by, by_next, next_is, pair, range, expr, driver, driven, optional_wire, port_of, port, ports, wire, reg, assign}
+use Rattle.verilog_tree.proofs.ExprIsSpelled.{bind_ok, ok_is, expect-ok, number-ok, parse-spells}
 use Rattle.verilog_tree.proofs.ModuleIsRead.{same_bytes-is}
 
 pair_sound : (ts : List Placed) (x : Pair × List Placed) → pair ts ≡ Ok x → SpellsPair x.0 ts x.1
@@ -96,7 +95,7 @@ range_sound ts x h = elim (taken (is_mark sign.OpenBracket) (λ us. pair us >>= 
 
 expr_sound : (ts : List Placed) (x : Expr × List Placed) → expr ts ≡ Ok x → SpellsExpr x.0 ts x.1
 unfolding expr
-expr_sound ts x h = let g = sound 64 ts x.0 x.1 h in (g.spells, g.deep)
+expr_sound ts x h = let g = parse-spells 64 ts x.0 x.1 h in (g.spells, g.deep)
 
 driver_sound : (s : Sign) (ts : List Placed) (x : Driver × List Placed) → driver s ts ≡ Ok x → SpellsDriver s x.0 ts x.1
 unfolding driver
@@ -421,6 +420,6 @@ finished_sound ts t (Ok (u, [])) m h =
 finished_sound ts t (Ok (u, (r ∷ rest))) m h = absurd cc
 finished_sound ts t (Err s) m h = absurd cc
 
--- what is read is spelled by the tokens
-pub read_sound : (ts : List Placed) (t : Tree) → read ts ≡ Ok t → SpellsModule t ts
-read_sound ts t h = finished_sound ts t (module_of (length ts) ts) (λ x e. module_sound (length ts) ts x e) h
+-- What is read is spelled by the tokens.
+pub read-spells : (ts : List Placed) (t : Tree) → read ts ≡ Ok t → SpellsModule t ts
+read-spells ts t h = finished_sound ts t (module_of (length ts) ts) (λ x e. module_sound (length ts) ts x e) h

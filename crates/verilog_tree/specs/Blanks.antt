@@ -1,6 +1,6 @@
 -- What may stand between tokens: spaces and comments.
 -- A comment is "//" up to a line feed or the end of the text, or "/*" up to the next "*/" behind it, so that "/*/" is only a beginning.
-use Rattle.std.specs.Prelude.{ℕ, Bool, true, false, ◌&&◌, ◌==◌, List, [], ◌∷◌, Option, Some, None}
+use Rattle.std.specs.Prelude.{ℕ, ◌&&◌, ◌==◌, List, [], ◌∷◌, Option, Some, None}
 use Rattle.verilog_tree.specs.Bytes.{choose, is_space, begins}
 
 -- where a byte stands

@@ -9,7 +9,7 @@
 --
 -- The longer signs of Verilog that begin as these, << <<< === && || ~& ~| ~^ ^~, are taken whole too, and are no tokens here.
 -- A malformed token, as a number of ten digits, a word of 256 bytes or 8'h1ff, is no token: it has no other reading as shorter ones.
-use Rattle.std.specs.Prelude.{◌≡◌, ℕ, ◌+◌, ◌^◌, Bool, true, false, not, ◌&&◌, ◌||◌, ◌==◌, nat_le, nat_lt, List, [], ◌∷◌, length, filter, Option, Some, None}
+use Rattle.std.specs.Prelude.{◌≡◌, ℕ, ◌+◌, ◌^◌, Bool, not, ◌&&◌, ◌||◌, ◌==◌, nat_le, nat_lt, List, [], ◌∷◌, length, filter, Option, Some, None}
 use Rattle.std.specs.Char.{digit_value}
 use Rattle.std.specs.Str.Parse.{digits_value}
 use Rattle.verilog_tree.specs.Signs.{Sign}

@@ -17,7 +17,6 @@ use Rattle.std.specs.Prelude.{◌≡◌, ℕ, ◌≤◌, Bool, true, false, ◌�
 use Rattle.verilog_tree.specs.Signs.{Sign}
 use Rattle.verilog_tree.specs.Signs as sign
 use Rattle.verilog_tree.specs.Lexemes.{Word, Placed}
-use Rattle.verilog_tree.specs.declared.expr.Ident.{Ident}
 use Rattle.verilog_tree.specs.declared.tree.Driver.{Driver}
 use Rattle.verilog_tree.specs.declared.expr.Pair.{Pair}
 use Rattle.verilog_tree.specs.declared.tree.PortDecl.{PortDecl}

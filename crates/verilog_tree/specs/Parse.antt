@@ -12,7 +12,7 @@ use Rattle.verilog_tree.specs.declared.expr.Expr.{Expr, Literal, Named, Select}
 use Rattle.verilog_tree.specs.declared.expr.Expr.TheVariants.{Cell, Paren, Not, Join, Binary, Choice}
 use Rattle.verilog_tree.specs.Depth.{depth_of}
 use Rattle.verilog_tree.specs.Grammar.{level_of}
-use Rattle.verilog_tree.specs.Readers.{Stop, Wrong, Deep, ◌>>=◌, Reader, expect, is_mark, number}
+use Rattle.verilog_tree.specs.Readers.{Stop, Wrong, Deep, ◌>>=◌, expect, is_mark, number}
 
 abbrev pub Read : Type 0
 Read = Result (Expr × List Placed) Stop

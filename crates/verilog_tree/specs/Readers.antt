@@ -2,7 +2,7 @@
 use Rattle.std.specs.Prelude.{ℕ, Bool, true, false, List, [], ◌∷◌, Result, Ok, Err}
 use Rattle.verilog_tree.specs.Signs.{Sign}
 use Rattle.verilog_tree.specs.Signs as sign
-use Rattle.verilog_tree.specs.Lexemes.{Lexeme, Word, Number, Sized, Mark, Placed}
+use Rattle.verilog_tree.specs.Lexemes.{Lexeme, Number, Mark, Placed}
 use Rattle.verilog_tree.specs.declared.expr.Num.{Num}
 
 -- Where reading stops, with what is left: at the first token that does not fit, or at a token behind which the expression is too deep.
