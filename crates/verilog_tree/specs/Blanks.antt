@@ -32,6 +32,7 @@ at_end Opening = None
 at_end Block = None
 at_end Closing = None
 
+-- the text here where a token begins, and else what comes of the mode
 abbrev pub on_mode : Option Mode → List ℕ → (Mode → Option (List ℕ)) → Option (List ℕ)
 on_mode None bytes go = Some bytes
 on_mode (Some m) bytes go = go m

@@ -6,6 +6,7 @@ use Rattle.verilog_tree.specs.declared.token.TokenKind.{TokenKind}
 use Rattle.verilog_tree.specs.declared.token.TokenKind.TheVariants as kind
 use Rattle.verilog_tree.specs.declared.token.Token.{Token}
 
+-- the kind of a token
 abbrev pub kind_of : Lexeme → TokenKind
 kind_of (Word w) = kind.Word
 kind_of (Number n) = kind.Number
