@@ -172,6 +172,11 @@ depth : both (value_reads (in_parentheses 63)) (value_reads (in_parentheses 64))
 unfolding tokens_of token_at is_reserved grammar_words unsupported_words parse goes_on operation choice selection cell paren negated joined parts module_of pair range expr driver driven optional_wire port_of port ports wire reg assign next_value reset_behind write_behind conditional stmt always item items shape-the_row-Expr-0 hidden-the_row-Expr-0 shape-the_row-Expr-1 hidden-the_row-Expr-1 hidden read_text
 depth = refl
 
+-- the words that are no names
+word_counts : (length grammar_words ≡ 11) × (length unsupported_words ≡ 40)
+unfolding grammar_words unsupported_words
+word_counts = (refl, refl)
+
 -- what is not computed has no tree
 none_with_for : (t : Tree) → Reads (in_module (codes "wire for = reset;")) t → ⊥
 unfolding tokens_of token_at is_reserved grammar_words unsupported_words parse goes_on operation choice selection cell paren negated joined parts module_of pair range expr driver driven optional_wire port_of port ports wire reg assign next_value reset_behind write_behind conditional stmt always item items shape-the_row-Expr-0 hidden-the_row-Expr-0 shape-the_row-Expr-1 hidden-the_row-Expr-1 hidden read_text
