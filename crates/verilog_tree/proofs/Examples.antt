@@ -20,9 +20,12 @@ use Rattle.verilog_tree.specs.declared.expr.Expr.{Expr, Literal, Named, Select}
 use Rattle.verilog_tree.specs.declared.expr.Expr.TheVariants.{Cell, Paren, Not, Join, Binary, Choice}
 use Rattle.verilog_tree.specs.declared.expr.Expr.TheBlock.{shape-the_row-Expr-0, hidden-the_row-Expr-0, shape-the_row-Expr-1, hidden-the_row-Expr-1}
 use denote.Hole.Carrier.{hidden}
+use Rattle.verilog_tree.specs.declared.token.TokenKind.TheVariants as kind
+use Rattle.verilog_tree.specs.declared.token.Token.{Token}
+use Rattle.verilog_tree.specs.TokenText.{token_text, IsTokenOf}
 use Rattle.verilog_tree.specs.declared.tree.Driver.{Driver}
 use Rattle.verilog_tree.specs.declared.tree.PortDecl.{PortDecl}
-use Rattle.verilog_tree.specs.declared.tree.Stmt.TheVariants.{Next, Reset, Write}
+use Rattle.verilog_tree.specs.declared.tree.Stmt.TheVariants.{Reset, Write}
 use Rattle.verilog_tree.specs.declared.tree.Item.TheVariants.{Wire, Reg, Assign, Always}
 use Rattle.verilog_tree.specs.declared.tree.Tree.{Tree}
 use Rattle.verilog_tree.specs.Module.{Reads, HasOneReading}
@@ -117,7 +120,7 @@ first_alone = (true, false)
 
 values :
     -- a value must be below 2 to the power of its size
-      (both (value_reads (codes "8'hff")) (value_reads (codes "8'h1ff")) ≡ first_alone)
+    (both (value_reads (codes "8'hff")) (value_reads (codes "8'h1ff")) ≡ first_alone)
     -- there are no shifts
     × (both (value_reads (codes "reset<2'h1")) (value_reads (codes "reset<<2")) ≡ first_alone)
     -- "~" stands before a primary
@@ -136,7 +139,7 @@ values = (refl, refl, refl, refl, refl, refl, refl, refl, refl)
 
 items_and_modules :
     -- a name is no reserved word; "clk" and "reset" are names
-      (both (item_reads (codes "wire four = reset;")) (item_reads (codes "wire for = reset;")) ≡ first_alone)
+    (both (item_reads (codes "wire four = reset;")) (item_reads (codes "wire for = reset;")) ≡ first_alone)
     × (both (item_reads (codes "wire clk;")) (item_reads (codes "wire wire;")) ≡ first_alone)
     -- a number has nine digits at most
     × (both (item_reads (codes "reg m [0:123456789];")) (item_reads (codes "reg m [0:1234567890];")) ≡ first_alone)
@@ -169,6 +172,11 @@ depth : both (value_reads (in_parentheses 63)) (value_reads (in_parentheses 64))
 unfolding tokens_of token_at is_reserved grammar_words unsupported_words parse goes_on operation choice selection cell paren negated joined parts module_of pair range expr driver driven optional_wire port_of port ports wire reg assign next_value reset_behind write_behind conditional stmt always item items shape-the_row-Expr-0 hidden-the_row-Expr-0 shape-the_row-Expr-1 hidden-the_row-Expr-1 hidden read_text
 depth = refl
 
+-- the words that are no names
+word_counts : (length grammar_words ≡ 11) × (length unsupported_words ≡ 40)
+unfolding grammar_words unsupported_words
+word_counts = (refl, refl)
+
 -- what is not computed has no tree
 none_with_for : (t : Tree) → Reads (in_module (codes "wire for = reset;")) t → ⊥
 unfolding tokens_of token_at is_reserved grammar_words unsupported_words parse goes_on operation choice selection cell paren negated joined parts module_of pair range expr driver driven optional_wire port_of port ports wire reg assign next_value reset_behind write_behind conditional stmt always item items shape-the_row-Expr-0 hidden-the_row-Expr-0 shape-the_row-Expr-1 hidden-the_row-Expr-1 hidden read_text
@@ -192,7 +200,7 @@ abbrev a : ℕ → Expr
 a at = Named (ident at (codes "a"))
 
 grouping :
-      (expr_of (codes "a & a == a") ≡ Some (Binary bin.And 2 (a 0) (Binary bin.Equal 6 (a 4) (a 9))))
+    (expr_of (codes "a & a == a") ≡ Some (Binary bin.And 2 (a 0) (Binary bin.Equal 6 (a 4) (a 9))))
     × (expr_of (codes "a == a & a") ≡ Some (Binary bin.And 7 (Binary bin.Equal 2 (a 0) (a 5)) (a 9)))
     × (expr_of (codes "a - a - a") ≡ Some (Binary bin.Minus 6 (Binary bin.Minus 2 (a 0) (a 4)) (a 8)))
     × (expr_of (codes "a + a < a") ≡ Some (Binary bin.Less 6 (Binary bin.Plus 2 (a 0) (a 4)) (a 8)))
@@ -219,7 +227,7 @@ abbrev b : Lexeme
 b = Word (codes "b")
 
 signs :
-      (lexemes_of (codes "b<=b") ≡ Some (b ∷ Mark sign.LessEqual ∷ b ∷ []))
+    (lexemes_of (codes "b<=b") ≡ Some (b ∷ Mark sign.LessEqual ∷ b ∷ []))
     × (lexemes_of (codes "b<b") ≡ Some (b ∷ Mark sign.Less ∷ b ∷ []))
     × (lexemes_of (codes "b<<b") ≡ None)
     × (lexemes_of (codes "b==b") ≡ Some (b ∷ Mark sign.Equal ∷ b ∷ []))
@@ -233,7 +241,7 @@ unfolding tokens_of token_at
 signs = (refl, refl, refl, refl, refl, refl, refl, refl, refl, refl)
 
 numbers :
-      (lexemes_of (codes "12'h0_fF") ≡ Some (Sized 12 255 ∷ []))
+    (lexemes_of (codes "12'h0_fF") ≡ Some (Sized 12 255 ∷ []))
     × (lexemes_of (codes "8'b12") ≡ Some (Sized 8 1 ∷ Number 2 ∷ []))
     × (lexemes_of (codes "3'O7 4'D10") ≡ Some (Sized 3 7 ∷ Sized 4 10 ∷ []))
     × (lexemes_of (codes "64'hffffffffffffffff") ≡ Some (Sized 64 18446744073709551615 ∷ []))
@@ -246,7 +254,7 @@ unfolding tokens_of token_at
 numbers = (refl, refl, refl, refl, refl, refl, refl, refl, refl)
 
 words :
-      (lexemes_of (codes "_b$1 $") ≡ None)
+    (lexemes_of (codes "_b$1 $") ≡ None)
     × (lexemes_of (codes "_b$1") ≡ Some (Word (codes "_b$1") ∷ []))
     × (lexemes_of (repeated 255 (codes "b")) ≡ Some (Word (repeated 255 (codes "b")) ∷ []))
     × (lexemes_of (repeated 256 (codes "b")) ≡ None)
@@ -254,7 +262,7 @@ unfolding tokens_of token_at
 words = (refl, refl, refl, refl)
 
 blanks :
-      (skipped Between (codes " \t\n\r/* * / **/b") ≡ Some (codes "b"))
+    (skipped Between (codes " \t\n\r/* * / **/b") ≡ Some (codes "b"))
     × (skipped Between (codes "// b\n b") ≡ Some (codes "b"))
     × (skipped Between (codes "// b") ≡ Some [])
     × (skipped Between (codes "/*/b") ≡ None)
@@ -284,14 +292,14 @@ counter v = record {
   at = 0;
   name = ident 7 (codes "counter");
   ports =
-    declared 15 true None (ident 21 (codes "clk")) ∷
-    declared 26 true None (ident 32 (codes "reset")) ∷
-    declared 39 false (Some (span 46 47 31 50 0)) (ident 53 (codes "pc_out")) ∷ [];
+      declared 15 true None (ident 21 (codes "clk")) ∷
+      declared 26 true None (ident 32 (codes "reset")) ∷
+      declared 39 false (Some (span 46 47 31 50 0)) (ident 53 (codes "pc_out")) ∷ [];
   items =
-    Reg 116 (Some (span 120 121 31 124 0)) (ident 127 (codes "pc")) None ∷
-    Wire 133 (Some (span 138 139 31 142 0)) (ident 145 (codes "next_pc")) (Some (gives 153 (Binary bin.Plus 158 (Named (ident 155 (codes "pc"))) (Literal (lit 160 32 4))))) ∷
-    Assign 169 (ident 176 (codes "pc_out")) (gives 183 (Named (ident 185 (codes "pc")))) ∷
-    Always 191 (Reset 213 (ident 224 (codes "pc")) 227 (lit 230 32 v) (ident 249 (codes "pc")) (gives 252 (Named (ident 255 (codes "next_pc"))))) ∷ [];
+      Reg 116 (Some (span 120 121 31 124 0)) (ident 127 (codes "pc")) None ∷
+      Wire 133 (Some (span 138 139 31 142 0)) (ident 145 (codes "next_pc")) (Some (gives 153 (Binary bin.Plus 158 (Named (ident 155 (codes "pc"))) (Literal (lit 160 32 4))))) ∷
+      Assign 169 (ident 176 (codes "pc_out")) (gives 183 (Named (ident 185 (codes "pc")))) ∷
+      Always 191 (Reset 213 (ident 224 (codes "pc")) 227 (lit 230 32 v) (ident 249 (codes "pc")) (gives 252 (Named (ident 255 (codes "next_pc"))))) ∷ [];
 }
 
 -- the text has this tree whatever the value is
@@ -311,3 +319,15 @@ tokens_before = some_tokens (tokens_ahead 230 230 before)
 any_rest : (rest : List ℕ) (us : List Placed) → HasTokens (230 + length rest) rest us → HasTokens (230 + length rest) (before ++ rest) (tokens_before ++ us)
 unfolding token_at tokens_ahead
 any_rest rest us h = tokens_ahead-append 230 230 (230 + length rest) before rest tokens_before us (omega arith) refl refl h
+
+-- ---- a token of the Rust type
+
+abbrev size_token : Token
+size_token = record { kind = kind.Literal; from = 5; to = 10 }
+
+size_text : token_text (codes "a <= 8'h0f;") size_token ≡ codes "8'h0f"
+size_text = refl
+
+size_is : IsTokenOf (codes "a <= 8'h0f;") size_token (record { at = 5; lexeme = Sized 8 15 })
+unfolding token_at
+size_is = record { sort = refl; place = refl; inside = omega arith; stands = refl }

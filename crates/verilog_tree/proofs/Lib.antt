@@ -1,9 +1,11 @@
 pub mod Made
 pub mod Depths
 pub mod ExprIsRead
+pub mod StepsAreSpelled
 pub mod ExprIsSpelled
 pub mod OneList
 pub mod ModuleIsRead
+pub mod ItemsAreSpelled
 pub mod ModuleIsSpelled
 pub mod Scans
 pub mod TokenList

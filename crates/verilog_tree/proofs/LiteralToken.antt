@@ -1,5 +1,5 @@
 -- A literal of 32 bits in hexadecimal is one token, whatever its value.
-use Rattle.std.proofs.Common.{◌≡◌, ℕ, suc, ◌+◌, ◌*◌, ◌^◌, ◌<◌, ◌≤◌, ◌/◌, ◌%◌, Bool, true, false, not, List, [], ◌∷◌, ◌++◌, length, Option, Some, None, refl, sym, ap, ◌∙◌, arith, eqb}
+use Rattle.std.proofs.Common.{◌≡◌, ℕ, ◌^◌, ◌<◌, true, not, List, [], ◌∷◌, ◌++◌, Some, refl, arith, eqb}
 use Rattle.std.specs.Prelude.{filter}
 use Rattle.std.specs.Char.{digit_value, digit_char}
 use Rattle.std.specs.Str.Parse.{digits_value, AllDigits}

@@ -1,5 +1,5 @@
 -- A text in pieces: the tokens of its front, computed alone, stand before those of the rest.
-use Rattle.std.proofs.Common.{◌≡◌, ℕ, zero, suc, ◌+◌, ◌-◌, ◌<◌, ◌≤◌, Bool, true, false, ◌&&◌, List, [], ◌∷◌, ◌++◌, length, Option, Some, None, refl, sym, ap, subst, ◌∙◌, arith, eqb, length-append}
+use Rattle.std.proofs.Common.{◌≡◌, ℕ, zero, suc, ◌+◌, ◌-◌, ◌≤◌, Bool, true, false, ◌&&◌, List, [], ◌∷◌, ◌++◌, length, Option, Some, None, refl, sym, ap, subst, ◌∙◌, arith, eqb, length-append}
 use Rattle.verilog_tree.specs.Bytes.{choose, is_space, begins}
 use Rattle.verilog_tree.specs.Lexemes.{Lexeme, Placed}
 use Rattle.verilog_tree.specs.Blanks.{Mode, Between, Line, Opening, Block, Closing, mode_after, at_end, on_mode, skipped}
@@ -7,7 +7,8 @@ use Rattle.verilog_tree.specs.Lex.{Scan, token_at, HasTokens}
 use Rattle.verilog_tree.specs.TokensOf.{with_token}
 use Rattle.verilog_tree.specs.TokensAhead.{on_next, mode_behind, ahead_end, ahead_scan, ahead_text, tokens_ahead}
 use Rattle.verilog_tree.proofs.Scans.{token_short, token_same}
-use Rattle.verilog_tree.proofs.TokenList.{some_is, skipped_short}
+use Rattle.verilog_tree.proofs.OneList.{some_is}
+use Rattle.verilog_tree.proofs.TokenList.{skipped_short}
 
 -- ---- spaces and comments
 

@@ -1,8 +1,8 @@
 -- A text is read by computing: its tokens, and then the module that they spell.
 use Rattle.std.proofs.Common.{◌≡◌, ℕ, suc, ◌+◌, ◌^◌, ◌<◌, ◌≤◌, List, [], ◌∷◌, ◌++◌, length, Option, Some, None, Result, Ok, Err, refl, sym, subst, arith, length-append}
 use Rattle.verilog_tree.specs.Lexemes.{Sized, Placed}
-use Rattle.verilog_tree.specs.Blanks.{Between, skipped}
-use Rattle.verilog_tree.specs.Lex.{token_at, HasTokens}
+use Rattle.verilog_tree.specs.Blanks.{Between}
+use Rattle.verilog_tree.specs.Lex.{HasTokens}
 use Rattle.verilog_tree.specs.TokensOf.{tokens_of}
 use Rattle.verilog_tree.specs.TokensAhead.{tokens_ahead}
 use Rattle.verilog_tree.specs.Hex.{hex8, literal_bytes, EndsLiteral}
@@ -10,9 +10,10 @@ use Rattle.verilog_tree.specs.Readers.{Stop}
 use Rattle.verilog_tree.specs.Read.{read, made, read_tokens, read_text}
 use Rattle.verilog_tree.specs.declared.tree.Tree.{Tree}
 use Rattle.verilog_tree.specs.Module.{Reads, HasOneReading}
-use Rattle.verilog_tree.proofs.ModuleIsRead.{one_tree, read_yes}
-use Rattle.verilog_tree.proofs.ModuleIsSpelled.{read_sound}
-use Rattle.verilog_tree.proofs.TokenList.{some_is, skipped_short, tokens_of-has, tokens_of-is}
+use Rattle.verilog_tree.proofs.ModuleIsRead.{one_tree, read-is}
+use Rattle.verilog_tree.proofs.ModuleIsSpelled.{read-spells}
+use Rattle.verilog_tree.proofs.OneList.{some_is}
+use Rattle.verilog_tree.proofs.TokenList.{skipped_short, tokens_of-has, tokens_of-is}
 use Rattle.verilog_tree.proofs.Scans.{token_short}
 use Rattle.verilog_tree.proofs.Pieces.{tokens_ahead-append}
 use Rattle.verilog_tree.proofs.LiteralToken.{literal_token_law}
@@ -20,7 +21,7 @@ use Rattle.verilog_tree.proofs.LiteralToken.{literal_token_law}
 -- A text whose tokens are read has that tree and no other.
 pub reads_by_tokens : (bytes : List ℕ) (ts : List Placed) (t : Tree) → HasTokens (length bytes) bytes ts → read ts ≡ Ok t → HasOneReading bytes t
 reads_by_tokens bytes ts t h k =
-    let reads : Reads bytes t = (ts, h, read_sound ts t k) in
+    let reads : Reads bytes t = (ts, h, read-spells ts t k) in
     (reads, λ other r. one_tree bytes other t r reads)
 
 -- The same, with the tokens computed.
@@ -36,7 +37,7 @@ has_short size bytes (t ∷ ts) (b, bs, rest, e, at, scan, more) = omega (arith,
 
 pub read_text-is : (bytes : List ℕ) (t : Tree) → Reads bytes t → read_text bytes ≡ Some t
 unfolding read_text
-read_text-is bytes t (ts, h, k) = rw (tokens_of-is (suc (length bytes)) (length bytes) bytes ts h (omega (arith, has_short (length bytes) bytes ts h)), read_yes t ts k) refl
+read_text-is bytes t (ts, h, k) = rw (tokens_of-is (suc (length bytes)) (length bytes) bytes ts h (omega (arith, has_short (length bytes) bytes ts h)), read-is t ts k) refl
 
 pub read_text-reads : (bytes : List ℕ) (t : Tree) → read_text bytes ≡ Some t → HasOneReading bytes t
 unfolding read_text

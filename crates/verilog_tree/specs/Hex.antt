@@ -1,5 +1,5 @@
 -- A literal of 32 bits with eight hexadecimal digits, as 32'h0000001f.
-use Rattle.std.specs.Prelude.{◌≡◌, ℕ, ◌^◌, ◌/◌, ◌%◌, false, List, [], ◌∷◌, ◌++◌}
+use Rattle.std.specs.Prelude.{◌≡◌, ℕ, ◌^◌, ◌/◌, ◌%◌, false, List, [], ◌∷◌}
 use Rattle.std.specs.Char.{digit_char}
 use Rattle.verilog_tree.specs.Lex.{in_literal}
 
