@@ -1,3 +1,5 @@
+pub mod CoreTree
+pub mod CoreSound
 pub mod Ordered
 pub mod Model
 pub mod Bits
