@@ -11,3 +11,4 @@ pub mod Run
 pub mod Control
 pub mod Follow
 pub mod CoreRefines
+pub mod CoreLaw
