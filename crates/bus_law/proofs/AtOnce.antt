@@ -1,5 +1,5 @@
--- Whatever a core gives on a bus, there is a bus that is honest over any memory, and answers within one cycle:
--- the one that takes each command as it comes, where no response is owed, and answers in the next cycle.
+-- For any reads given on the instruction bus, cycle by cycle, there is a bus that is honest over any memory: the one
+-- that takes each command as it comes, where no response is owed, and answers in the next cycle.
 use Rattle.std.proofs.Common.{◌≡◌, ℕ, zero, suc, ◌+◌, ◌<◌, ◌≤◌, Bool, true, false, cond, not, eqb, ◌&&◌, ◌⊎◌, Option, Some, None, refl, sym, ap, ◌∙◌, subst, inl, inr, arith}
 use Rattle.core_words.specs.Values.{one_if}
 use Rattle.core_ports.specs.Trace.{Bus}

@@ -12,3 +12,4 @@ pub mod Control
 pub mod Follow
 pub mod CoreRefines
 pub mod RunExample
+pub mod CoreLaw

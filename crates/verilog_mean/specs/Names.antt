@@ -1,4 +1,5 @@
--- Names are declared once, and before they are used (IEEE 1364-2005, 3.7, 4.3, 12.1).
+-- Names are declared once, and before they are used (IEEE 1364-2005, 3.7, 4.3, 4.5, 4.11;
+-- the standard also has wires without a declaration, which this subset has not).
 use Rattle.std.specs.Prelude.{ℕ, ◌+◌, Bool, true, false, not, eqb, leb, List, [], ◌∷◌, ◌++◌, ◌&&◌, ◌||◌, Option, Some, None, codes}
 use Rattle.core_words.specs.Names.{same_name}
 use Rattle.verilog_tree.specs.declared.expr.Ident.{Ident}
