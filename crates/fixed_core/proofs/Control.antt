@@ -12,7 +12,8 @@ abbrev pub IsOwed : (addr : ℕ → ℕ) → (pc : ℕ) → Bool → Option ℕ 
 IsOwed addr pc false command = command ≡ None
 IsOwed addr pc true command = (j : ℕ) × (command ≡ Some j) × (addr j ≡ pc)
 
-pub owed_step : (addr : ℕ → ℕ) (k pc pc' : ℕ) (command : Option ℕ) (o s r c : Bool) → IsOwed addr pc o command → addr k ≡ pc → ((o && c) ≡ false → pc' ≡ pc)
+pub owed_step : (addr : ℕ → ℕ) (k pc pc' : ℕ) (command : Option ℕ) (o s r c : Bool) → IsOwed addr pc o command → addr k ≡ pc
+    → ((o && c) ≡ false → pc' ≡ pc)
     → IsOwed addr pc' ((o && not c) || (not (o || s) && r)) (cond (not (o || s) && r) (Some k) (cond c None command))
 owed_step addr k pc pc' command true s r true h a stay = refl
 owed_step addr k pc pc' command true s r false h a stay = (h.0, h.1, h.2 ∙ sym (stay refl))
@@ -32,7 +33,8 @@ apart_step false false true c f h = refl
 apart_step false false false c f h = refl
 
 -- a command that is not taken is given again
-pub asks_again : (o s r c f : Bool) → not (o || s) ≡ true → r ≡ false → not (((o && not c) || (not (o || s) && r)) || (s || ((o && c) && not f))) ≡ true
+pub asks_again : (o s r c f : Bool) → not (o || s) ≡ true → r ≡ false
+    → not (((o && not c) || (not (o || s) && r)) || (s || ((o && c) && not f))) ≡ true
 asks_again true s r c f h e = absurd (grind arith)
 asks_again false true r c f h e = absurd (grind arith)
 asks_again false false true c f h e = absurd (grind arith)
@@ -43,7 +45,8 @@ asks_not_done true s c h = absurd (grind arith)
 asks_not_done false s c h = refl
 
 -- and none is given where a response is owed
-pub waits_by : (addr : ℕ → ℕ) (pc : ℕ) (command : Option ℕ) (o s : Bool) → IsOwed addr pc o command → (not (o || s) && is_some command) ≡ false
+pub waits_by : (addr : ℕ → ℕ) (pc : ℕ) (command : Option ℕ) (o s : Bool) → IsOwed addr pc o command
+    → (not (o || s) && is_some command) ≡ false
 waits_by addr pc command true s h = refl
 waits_by addr pc command false true h = refl
 waits_by addr pc command false false h = ap is_some h
@@ -76,6 +79,7 @@ aligned_step true pc h = omega arith
 aligned_step false pc h = h
 
 -- a response is what memory holds at the pc
-pub fetched_reply : (memory : Memory) (pc : ℕ) (held : Option ℕ) (error word : ℕ) → word_at memory pc ≡ held → FetchReply held error word → FetchedFrom memory pc (fetched_of (eqb error 1) word)
+pub fetched_reply : (memory : Memory) (pc : ℕ) (held : Option ℕ) (error word : ℕ) → word_at memory pc ≡ held
+    → FetchReply held error word → FetchedFrom memory pc (fetched_of (eqb error 1) word)
 fetched_reply memory pc None error word e h = subst (λ v. FetchedFrom memory pc (fetched_of (eqb v 1) word)) (sym h) e
 fetched_reply memory pc (Some w) error word e h = subst (λ v. FetchedFrom memory pc (fetched_of (eqb v 1) word)) (sym h.0) (e ∙ ap Some (sym h.1))

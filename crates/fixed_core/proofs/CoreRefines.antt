@@ -35,7 +35,8 @@ core_has_ports : (reset_pc : ℕ) → HasCorePorts (core_module reset_pc)
 unfolding name_of core_ports core_module
 core_has_ports reset_pc = record { each = refl; only = refl }
 
-refines_from : (reset_pc : ℕ) → reset_pc % 4 ≡ 0 → (s : State) → IsStart (core_items reset_pc) s → RefinesFrom (core_module reset_pc) fixed_set reset_pc (no_claim fixed_set) s
+refines_from : (reset_pc : ℕ) → reset_pc % 4 ≡ 0 → (s : State) → IsStart (core_items reset_pc) s
+    → RefinesFrom (core_module reset_pc) fixed_set reset_pc (no_claim fixed_set) s
 unfolding core_items core_module
 refines_from reset_pc a s start =
     let cells = start.1.1.1 in

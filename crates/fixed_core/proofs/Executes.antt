@@ -19,7 +19,8 @@ use Rattle.fixed_core.proofs.Decode.{goes_on, halts, word_outcome}
 pub read_zeroed : (x : List ℕ) (r : ℕ) → register (set x 0 0) r ≡ register x r
 read_zeroed x r = go x r (eqb r 0) refl
   where
-    go : (x : List ℕ) (r : ℕ) (b : Bool) → eqb r 0 ≡ b → (elim b as (λ v. ℕ) [ true ↦ 0 | false ↦ get_or (set x 0 0) r 0 ]) ≡ (elim b as (λ v. ℕ) [ true ↦ 0 | false ↦ get_or x r 0 ])
+    go : (x : List ℕ) (r : ℕ) (b : Bool) → eqb r 0 ≡ b
+        → (elim b as (λ v. ℕ) [ true ↦ 0 | false ↦ get_or (set x 0 0) r 0 ]) ≡ (elim b as (λ v. ℕ) [ true ↦ 0 | false ↦ get_or x r 0 ])
     go x r true e = refl
     go [] r false e = refl
     go (y ∷ ys) zero false e = absurd (grind (arith, nat_tests))
@@ -52,7 +53,14 @@ word_shown c = cond c.error 0 c.word
 
 -- what the ports tell
 abbrev pub told : Cycle → PortEvent
-told c = record { kind = cond (is_fine c) 0 3; pc = c.pc; word = word_shown c; rd = rd_shown c; value = value_shown c; cause = cond (is_fine c) 0 (cause_of c) }
+told c = record {
+  kind = cond (is_fine c) 0 3;
+  pc = c.pc;
+  word = word_shown c;
+  rd = rd_shown c;
+  value = value_shown c;
+  cause = cond (is_fine c) 0 (cause_of c);
+}
 
 -- what is done, and the machine after it
 abbrev pub did : Cycle → Memory → Done
@@ -72,7 +80,8 @@ did c memory = record {
 
 with_error : (m : Machine) (word value cause : ℕ) (moment : Moment) (k : Bool)
     → outcome_of fixed_set m (Word word) moment ≡ cond k (Some (goes_on m word value)) (Some (halts m word cause))
-    → (b : Bool) → outcome_of fixed_set m (fetched_of b word) moment ≡ cond (not b && k) (Some (goes_on m word value)) (Some (halts m (cond b 0 word) (cond b 1 cause)))
+    → (b : Bool)
+    → outcome_of fixed_set m (fetched_of b word) moment ≡ cond (not b && k) (Some (goes_on m word value)) (Some (halts m (cond b 0 word) (cond b 1 cause)))
 unfolding outcome_of
 with_error m word value cause moment k h true = refl
 with_error m word value cause moment k h false = h
@@ -114,8 +123,8 @@ done_is : (x : List ℕ) (pc word value cause : ℕ) (memory : Memory) (s f b z 
     cond f (Some (retired z m word value)) (Some (halts m (cond b 0 word) cause)) ≡ Some d
 done_is x pc word value cause memory s true b true h e = refl
 done_is x pc word value cause memory s true b false h e =
-    ap (λ r. Some (record { event = Retire pc word (rd_of word) value; write = None; new = record { regs = r; pc = behind pc; csrs = reset_csrs (misa_of fixed_set); memory = memory; stopped = false } }))
-    (write_zeroed x (rd_of word) value e)
+    let new : List ℕ → Machine = λ r. record { regs = r; pc = behind pc; csrs = reset_csrs (misa_of fixed_set); memory = memory; stopped = false } in
+    ap (λ r. Some (record { event = Retire pc word (rd_of word) value; write = None; new = new r })) (write_zeroed x (rd_of word) value e)
 done_is x pc word value cause memory s false b z h e = refl
 
 fine_not_error : (b k : Bool) → (not b && k) ≡ true → b ≡ false
@@ -127,12 +136,20 @@ pub core_outcome : (c : Cycle) (memory : Memory) (moment : Moment) → c.word < 
 unfolding puts is_fine
 core_outcome c memory moment h =
     outcome c memory moment h
-    ∙ done_is c.x c.pc c.word (value_of c) (cause_of c) memory c.stopped (is_fine c) c.error (eqb (rd_of c.word) 0) (fine_not_error c.error (known (tests_of c.word))) refl
+    ∙ done_is c.x c.pc c.word (value_of c) (cause_of c) memory c.stopped (is_fine c) c.error (eqb (rd_of c.word) 0)
+    (fine_not_error c.error (known (tests_of c.word))) refl
 
 -- ---- what the ports tell
 
 told_is : (pc word r value cause : ℕ) (f b rest : Bool) → (f ≡ true → b ≡ false)
-    → let p : PortEvent = record { kind = cond f 0 3; pc = pc; word = cond b 0 word; rd = cond (f && rest) r 0; value = cond (f && rest) value 0; cause = cond f 0 cause } in
+    → let p : PortEvent = record {
+      kind = cond f 0 3;
+      pc = pc;
+      word = cond b 0 word;
+      rd = cond (f && rest) r 0;
+      value = cond (f && rest) value 0;
+      cause = cond f 0 cause;
+    } in
     shown (cond f (Retire pc word (cond (f && rest) r 0) (cond (f && rest) value 0)) (Trap pc (cond b 0 word) cause true)) ≡ p
 told_is pc word r value cause true true rest h = absurd (let k : true ≡ false = h refl in grind arith)
 told_is pc word r value cause true false rest h = refl
@@ -140,4 +157,6 @@ told_is pc word r value cause false b rest h = refl
 
 pub core_told : (c : Cycle) (memory : Memory) → shown (did c memory).event ≡ told c
 unfolding puts is_fine
-core_told c memory = told_is c.pc c.word (rd_of c.word) (value_of c) (cause_of c) (is_fine c) c.error (not (eqb (rd_of c.word) 0)) (fine_not_error c.error (known (tests_of c.word)))
+core_told c memory =
+    told_is c.pc c.word (rd_of c.word) (value_of c) (cause_of c) (is_fine c) c.error (not (eqb (rd_of c.word) 0))
+    (fine_not_error c.error (known (tests_of c.word)))

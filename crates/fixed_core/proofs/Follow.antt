@@ -30,14 +30,16 @@ grow false k done past = past
 grow true k done past = record { cycle = k; done = done } ∷ past
 
 -- what memory holds now may be fetched
-possible_now : (start : Machine) (past : History) (pc : ℕ) (fetched : Fetched) → FetchedFrom (now start past).memory pc fetched → Possible start past pc fetched
+possible_now : (start : Machine) (past : History) (pc : ℕ) (fetched : Fetched) → FetchedFrom (now start past).memory pc fetched
+    → Possible start past pc fetched
 possible_now start [] pc fetched h = h
 possible_now start (e ∷ past) pc fetched h = inl h
 
 no_interrupt : (c : Cycle) (memory : Memory) → is_interrupt (did c memory).event ≡ false
 no_interrupt c memory = go (is_fine c)
   where
-    go : (f : Bool) → is_interrupt (cond f (Retire c.pc c.word (rd_shown c) (value_shown c)) (Trap c.pc (word_shown c) (cause_of c) true)) ≡ false
+    go : (f : Bool)
+        → is_interrupt (cond f (Retire c.pc c.word (rd_shown c) (value_shown c)) (Trap c.pc (word_shown c) (cause_of c) true)) ≡ false
     go true = refl
     go false = refl
 
@@ -106,7 +108,8 @@ module _ (g : Given) (m : Memory) where
   response k pc true command h e honest came =
       let j = h.0 in
       let taken = subst (λ c. Responds fetch_reply bus (memory_at m (db g)) k c) h.1 honest in
-      let reply : FetchReply (word_at (memory_at m (db g) j) (bus.cmd_addr j)) (bus.rsp_error k) (bus.rsp_data k) = taken.1 ((came_shown g k).is ∙ ap one_if came) in
+      let reply : FetchReply (word_at (memory_at m (db g) j) (bus.cmd_addr j)) (bus.rsp_error k) (bus.rsp_data k) =
+      taken.1 ((came_shown g k).is ∙ ap one_if came) in
       let here : FetchReply (word_at m pc) (bus.rsp_error k) (bus.rsp_data k) =
       subst (λ w. FetchReply w (bus.rsp_error k) (bus.rsp_data k)) (ap₂ word_at (memory_stays g m j) h.2) reply in
       subst (λ f. FetchedFrom m pc f) (ap₂ fetched_of (test_is (error_shown g k)) (word_shown_is g k))
@@ -137,7 +140,8 @@ module _ (g : Given) (m : Memory) where
 
   -- ---- one cycle on: d that there is an event
 
-  runs_on : (d : Bool) (k : ℕ) (h : History) → Inv k h → IsFair k → is_done (at g k) ≡ d → IsRun fixed_set begun moments (grow d k (did (at g k) m) h)
+  runs_on : (d : Bool) (k : ℕ) (h : History) → Inv k h → IsFair k → is_done (at g k) ≡ d
+      → IsRun fixed_set begun moments (grow d k (did (at g k) m) h)
   runs_on true k h inv fair done = (inv.runs, goes_on k h inv fair done)
   runs_on false k h inv fair done = inv.runs
 
@@ -194,7 +198,8 @@ module _ (g : Given) (m : Memory) where
       let c = at g (suc k) in
       ap₂ (λ o s. o && s) (owed_goes g k) (stopped_goes g k) ∙ apart_step c.owed c.stopped c.ready c.came (is_fine c) inv.apart
 
-  next : (k : ℕ) (h : History) → Inv (suc k) h → IsFair (suc k) → Inv (suc (suc k)) (grow (is_done (at g (suc k))) (suc k) (did (at g (suc k)) m) h)
+  next : (k : ℕ) (h : History) → Inv (suc k) h → IsFair (suc k)
+      → Inv (suc (suc k)) (grow (is_done (at g (suc k))) (suc k) (did (at g (suc k)) m) h)
   next k h inv fair = record {
     aligned = aligned_next k h inv;
     apart = apart_next k h inv;

@@ -107,7 +107,9 @@ module _ (g : Given) where
 
   pub x_first : (at 1).x ≡ g.contents.cells (net_name net.x)
   unfolding state_at
-  x_first = x_after g.reset_pc g.contents (ins 0) (fits 0) ∙ ap (λ w. put_if w (at 0)) (gated (is_done (at 0) && puts (at 0)) (at 0).reset reset_first)
+  x_first =
+      x_after g.reset_pc g.contents (ins 0) (fits 0)
+      ∙ ap (λ w. put_if w (at 0)) (gated (is_done (at 0) && puts (at 0)) (at 0).reset reset_first)
 
   -- ---- the later edges
 
@@ -125,7 +127,9 @@ module _ (g : Given) where
 
   pub x_goes : (k : ℕ) → let c = at (suc k) in (at (suc (suc k))).x ≡ cond (is_done c && puts c) (set c.x (rd_of c.word) (value_of c)) c.x
   unfolding state_at
-  x_goes k = x_after g.reset_pc (state (suc k)) (ins (suc k)) (fits (suc k)) ∙ ap (λ w. put_if w (at (suc k))) (ungated (is_done (at (suc k)) && puts (at (suc k))) (at (suc k)).reset (reset_later k))
+  x_goes k =
+      x_after g.reset_pc (state (suc k)) (ins (suc k)) (fits (suc k))
+      ∙ ap (λ w. put_if w (at (suc k))) (ungated (is_done (at (suc k)) && puts (at (suc k))) (at (suc k)).reset (reset_later k))
 
   -- ---- what the ports show
 
@@ -192,7 +196,9 @@ module _ (g : Given) where
   pub no_writes : (k : ℕ) → writes_before db k ≡ []
   unfolding writes_before
   no_writes zero = refl
-  no_writes (suc k) = ap (λ w. cond w (store_of (db.cmd_addr k) (db.cmd_data k) (db.cmd_mask k) ∷ writes_before db k) (writes_before db k)) (no_write k) ∙ no_writes k
+  no_writes (suc k) =
+      let store = store_of (db.cmd_addr k) (db.cmd_data k) (db.cmd_mask k) in
+      ap (λ w. cond w (store ∷ writes_before db k) (writes_before db k)) (no_write k) ∙ no_writes k
 
   no_standing : (k : ℕ) → breaks_standing db k ≡ false
   unfolding breaks_standing

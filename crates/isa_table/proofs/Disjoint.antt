@@ -45,7 +45,8 @@ module _ (word : ℕ) where
       let q : bit_and word s.mask ≡ s.value = grind (arith, nat_tests) in
       not_both _ _ h (shared r s p ∙ ap (bit_and word) (and_comm r.mask s.mask) ∙ sym (shared s r q))
 
-  no_later : (r : Row) (rows : List Row) → is_apart_from_all r rows ≡ true → meets word r ≡ true → (j : ℕ) → j < length rows → meets word (get_or rows j lui) ≡ true → ⊥
+  no_later : (r : Row) (rows : List Row) → is_apart_from_all r rows ≡ true → meets word r ≡ true → (j : ℕ) → j < length rows
+      → meets word (get_or rows j lui) ≡ true → ⊥
   no_later r [] h a j l b = absurd (omega arith)
   no_later r (s ∷ rest) h a zero l b = clash r s (both_left _ _ h) a b
   no_later r (s ∷ rest) h a (suc j) l b = no_later r rest (both_right _ _ h) a j (omega arith) b
@@ -58,7 +59,8 @@ module _ (word : ℕ) where
   one_place (r ∷ rest) h (suc i) zero l k a b = absurd (no_later r rest (both_left _ _ h) b i (omega arith) a)
   one_place (r ∷ rest) h (suc i) (suc j) l k a b = ap suc (one_place rest (both_right _ _ h) i j (omega arith) (omega arith) a b)
 
-pub one_row : (word i j : ℕ) → i < length table → j < length table → meets word (get_or table i lui) ≡ true → meets word (get_or table j lui) ≡ true → i ≡ j
+pub one_row : (word i j : ℕ) → i < length table → j < length table → meets word (get_or table i lui) ≡ true
+    → meets word (get_or table j lui) ≡ true → i ≡ j
 one_row word = one_place word table table_is_apart
 
 -- the place of the first row of a word among rows; their number where there is none
@@ -81,14 +83,16 @@ module _ (word : ℕ) where
 
   meets_step : (r : Row) (rest : List Row) → ((k : ℕ) → meets word r ≡ true → k < length rest → meets word (get_or rest k lui) ≡ true → ⊥)
       → ((k : ℕ) → k < length rest → meets word (get_or rest k lui) ≡ eqb k (first_row word rest)) → (b : Bool) → meets word r ≡ b
-      → (k : ℕ) → k < suc (length rest) → meets word (get_or (r ∷ rest) k lui) ≡ eqb k (elim b [ true ↦ 0 | false ↦ suc (first_row word rest) ])
+      → (k : ℕ) → k < suc (length rest)
+      → meets word (get_or (r ∷ rest) k lui) ≡ eqb k (elim b [ true ↦ 0 | false ↦ suc (first_row word rest) ])
   meets_step r rest none later true e zero l = e
   meets_step r rest none later true e (suc k) l = false_if _ (none k e (omega arith)) ∙ grind (arith, nat_tests)
   meets_step r rest none later false e zero l = e ∙ grind (arith, nat_tests)
   meets_step r rest none later false e (suc k) l = later k (omega arith) ∙ grind (arith, nat_tests)
 
   -- a word is of the row at one place and of no other
-  meets_first : (rows : List Row) → are_apart rows ≡ true → (k : ℕ) → k < length rows → meets word (get_or rows k lui) ≡ eqb k (first_row word rows)
+  meets_first : (rows : List Row) → are_apart rows ≡ true → (k : ℕ) → k < length rows
+      → meets word (get_or rows k lui) ≡ eqb k (first_row word rows)
   meets_first [] h k l = absurd (omega arith)
   meets_first (r ∷ rest) h k l =
       meets_step r rest (λ j e. no_later word r rest (both_left _ _ h) e j) (meets_first rest (both_right _ _ h)) (meets word r) refl k l

@@ -27,7 +27,8 @@ module _ (w : List ℕ → ℕ) (cells : List ℕ → List ℕ) (f g : List ℕ 
         ∙ ap (λ v. choose (eval w cells g test) v (eval w cells f second)) (eval-same first (λ y q. h y (inr (inl q))))
         ∙ ap (λ v. choose (eval w cells g test) (eval w cells g first) v) (eval-same second (λ y q. h y (inr (inr q))))
 
-    parts-same : (parts : Exprs) → ((y : List ℕ) → MentionsPart parts y → f y ≡ g y) → eval_parts w cells f parts ≡ eval_parts w cells g parts
+    parts-same : (parts : Exprs) → ((y : List ℕ) → MentionsPart parts y → f y ≡ g y)
+        → eval_parts w cells f parts ≡ eval_parts w cells g parts
     parts-same NoPart h = refl
     parts-same (Part part NoPart) h = eval-same part (λ y q. h y (inl q))
     parts-same (Part part (Part next parts)) h =

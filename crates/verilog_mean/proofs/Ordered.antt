@@ -117,7 +117,8 @@ module _ (rank : List ℕ → ℕ) (x y : List ℕ) (e : Expr) (q : Mentions e y
   if_lower name s rest h later true t d = here_lower name s h (let k : s ≡ Driven e = cc in k) (same_text name x t)
   if_lower name s rest h later false t d = later d
 
-  pick_lower : (o : Option (List ℕ × Source)) (rest : Option Source) → gives_lower rank o ≡ true → (rest ≡ Some (Driven e) → rank y < rank x)
+  pick_lower : (o : Option (List ℕ × Source)) (rest : Option Source) → gives_lower rank o ≡ true
+      → (rest ≡ Some (Driven e) → rank y < rank x)
       → pick o x rest ≡ Some (Driven e) → rank y < rank x
   pick_lower None rest h later d = later d
   pick_lower (Some p) rest h later d = if_lower p.0 p.1 rest h later (same_name p.0 x) refl d
@@ -131,7 +132,8 @@ module _ (rank : List ℕ → ℕ) (x y : List ℕ) (e : Expr) (q : Mentions e y
   from_items (Some s) d = ap Some d
 
   -- a port that the outside drives has no driver
-  if_port : (rest : Option Source) (s : Source) → (or_else rest s ≡ Driven e → s ≡ Driven e) → (b : Bool) → or_else (pick_if b Outside rest) s ≡ Driven e → s ≡ Driven e
+  if_port : (rest : Option Source) (s : Source) → (or_else rest s ≡ Driven e → s ≡ Driven e) → (b : Bool)
+      → or_else (pick_if b Outside rest) s ≡ Driven e → s ≡ Driven e
   if_port rest s later true d = absurd (grind arith)
   if_port rest s later false d = later d
 
@@ -141,7 +143,8 @@ module _ (rank : List ℕ → ℕ) (x y : List ℕ) (e : Expr) (q : Mentions e y
   from_ports (Out width name ∷ rest) s d = from_ports rest s d
 
 -- any rank by which the items pass the test
-pub lower_by : (m : Plain) (rank : List ℕ → ℕ) → all_lower rank m.items ≡ true → (x y : List ℕ) (e : Expr) → source_of m x ≡ Driven e → Mentions e y → rank y < rank x
+pub lower_by : (m : Plain) (rank : List ℕ → ℕ) → all_lower rank m.items ≡ true → (x y : List ℕ) (e : Expr) → source_of m x ≡ Driven e
+    → Mentions e y → rank y < rank x
 lower_by m rank h x y e d q =
     item_lower rank x y e q m.items h
     (from_items rank x y e q (look item_source m.items x) (from_ports rank x y e q m.ports (or_else (look item_source m.items x) Nowhere) d))
@@ -152,7 +155,8 @@ place_of_le place n Outside = omega arith
 place_of_le place n Held = omega arith
 place_of_le place n (Driven e) = omega arith
 
-rank_at_le : (place n : ℕ) (o : Option (List ℕ × Source)) (x : List ℕ) (later : ℕ) → later ≤ suc place + n → rank_at place o x later ≤ place + suc n
+rank_at_le : (place n : ℕ) (o : Option (List ℕ × Source)) (x : List ℕ) (later : ℕ) → later ≤ suc place + n
+    → rank_at place o x later ≤ place + suc n
 rank_at_le place n None x later h = omega arith
 rank_at_le place n (Some p) x later h = one (same_name p.0 x)
   where
@@ -165,4 +169,7 @@ rank_in_le place [] x = omega arith
 rank_in_le place (i ∷ rest) x = rank_at_le place (length rest) (item_source i) x (rank_in (suc place) rest x) (rank_in_le (suc place) rest x)
 
 pub ordered_is_ranked : (m : Plain) → ordered m ≡ true → IsRanked m (rank_of m)
-ordered_is_ranked m h = record { lower = lower_by m (rank_of m) h; small = λ x. let k : rank_in 0 m.items x ≤ 0 + length m.items = rank_in_le 0 m.items x in omega arith }
+ordered_is_ranked m h = record {
+  lower = lower_by m (rank_of m) h;
+  small = λ x. let k : rank_in 0 m.items x ≤ 0 + length m.items = rank_in_le 0 m.items x in omega arith;
+}
