@@ -1,11 +1,11 @@
 -- For any reads given on the instruction bus, cycle by cycle, there is a bus that is honest over any memory: the one
 -- that takes each command as it comes, where no response is owed, and answers in the next cycle.
-use Rattle.std.proofs.Common.{◌≡◌, ℕ, zero, suc, ◌+◌, ◌<◌, ◌≤◌, Bool, true, false, cond, not, eqb, ◌&&◌, ◌⊎◌, Option, Some, None, refl, sym, ap, ◌∙◌, subst, inl, inr, arith}
+use Rattle.std.proofs.Common.{◌≡◌, ℕ, zero, suc, Bool, true, false, cond, not, eqb, ◌&&◌, Option, Some, None, refl, sym, ap, ◌∙◌, subst, arith}
 use Rattle.core_words.specs.Values.{one_if}
 use Rattle.core_ports.specs.Trace.{Bus}
 use Rattle.bus_law.specs.Memory.{Memory, word_at}
 use Rattle.bus_law.specs.Protocol.{is_given, is_accepted, owed}
-use Rattle.bus_law.specs.Honest.{FetchReply, fetch_reply, Responds, IsHonestAt, Begins, IsWithin}
+use Rattle.bus_law.specs.Honest.{FetchReply, fetch_reply, Responds, IsHonestAt}
 
 module _ (memory : ℕ → Memory) (valid addr : ℕ → ℕ) where
   -- a response is owed
@@ -33,8 +33,15 @@ module _ (memory : ℕ → Memory) (valid addr : ℕ → ℕ) where
 
   abbrev pub at_once : Bus
   at_once = record {
-    cmd_valid = valid; cmd_ready = ready; cmd_write = λ k. 0; cmd_addr = addr; cmd_data = λ k. 0; cmd_mask = λ k. 0;
-    rsp_valid = λ k. one_if (busy k); rsp_error = λ k. error_of (answer k); rsp_data = λ k. data_of (answer k);
+    cmd_valid = valid;
+    cmd_ready = ready;
+    cmd_write = λ k. 0;
+    cmd_addr = addr;
+    cmd_data = λ k. 0;
+    cmd_mask = λ k. 0;
+    rsp_valid = λ k. one_if (busy k);
+    rsp_error = λ k. error_of (answer k);
+    rsp_data = λ k. data_of (answer k);
   }
 
   back : (b : Bool) → eqb (one_if b) 1 ≡ b

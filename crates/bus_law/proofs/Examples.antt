@@ -1,5 +1,5 @@
 -- Computed examples of memory, and cores that break a duty.
-use Rattle.std.proofs.Common.{◌≡◌, ℕ, zero, suc, ◌<◌, ◌≤◌, ◌%◌, Bool, true, false, List, [], ◌∷◌, ◌^◌, Option, Some, None, length, All, refl, inl, arith, lit<, lit≤}
+use Rattle.std.proofs.Common.{◌≡◌, ℕ, ◌<◌, true, false, [], ◌∷◌, ◌^◌, Some, None, All, refl, inl, arith, lit<, lit≤}
 use Rattle.std.proofs.lemmas.List.Elements.{All-cons, All-nil}
 use Rattle.core_ports.specs.Trace.{Bus}
 use Rattle.bus_law.specs.Memory.{Memory, IsMemory, word_at, written, is_window, store_of, with_store}

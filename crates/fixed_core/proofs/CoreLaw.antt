@@ -1,14 +1,11 @@
 -- The text of the fixed core is a core.
-use Rattle.std.proofs.Common.{◌≡◌, ℕ, ◌%◌, ◌^◌, ◌<◌, Bool, true, false, eqb, ◌||◌, List, refl, sym, subst}
-use Rattle.isa_table.specs.Rows.{table, is_in_table}
+use Rattle.std.proofs.Common.{◌≡◌, ℕ, ◌%◌, ◌^◌, ◌<◌, Bool, true, false, eqb, ◌||◌, refl, sym, subst}
 use Rattle.isa_model.specs.Machine.{IsBuilt}
 use Rattle.verilog_mean.specs.Plain.{Plain}
-use Rattle.verilog_mean.specs.Erase.{plain_tree}
 use Rattle.pipe_refine.specs.Refines.{Refines}
 use Rattle.pipe_refine.specs.CoreText.{IsCoreText}
 use Rattle.fixed_core.specs.FixedSet.{fixed_set}
 use Rattle.fixed_core.specs.Text.{core_text}
-use Rattle.fixed_core.specs.Core.{core_module}
 use Rattle.fixed_core.proofs.CoreTree.{core_tree, core_text_reads}
 use Rattle.fixed_core.proofs.CoreSound.{core_tree_plain, core_is_sound}
 use Rattle.fixed_core.proofs.CoreRefines.{core_refines}

@@ -1,6 +1,6 @@
 -- The text of the fixed core has one tree, which is computed: its tokens before the literal of the reset pc,
 -- that literal with any value, its tokens behind it, and the module that they spell.
-use Rattle.std.proofs.Common.{◌≡◌, ℕ, ◌+◌, ◌-◌, ◌^◌, ◌<◌, List, [], ◌∷◌, ◌++◌, length, take, Option, Some, None, Result, Ok, Err, refl, subst, sym}
+use Rattle.std.proofs.Common.{◌≡◌, ℕ, ◌+◌, ◌-◌, ◌^◌, ◌<◌, List, [], ◌∷◌, ◌++◌, length, take, Option, Some, None, Result, Ok, Err, refl, subst}
 use Rattle.fixed_core.specs.declared.text.TheConstants.{BEFORE_RESET_PC, AFTER_RESET_PC}
 use Rattle.fixed_core.specs.Text.{core_text}
 use Rattle.verilog_tree.specs.Hex.{literal_bytes}

@@ -1,5 +1,5 @@
 -- Computed examples of the registers, of traps and of interrupts.
-use Rattle.std.proofs.Common.{◌≡◌, ℕ, true, false, Some, None, refl}
+use Rattle.std.proofs.Common.{◌≡◌, true, false, Some, None, refl}
 use Rattle.isa_csr.specs.Csrs.{Csrs, reset_csrs, csr_read, csr_write, is_read_only, trap_entry, trap_return, wakes, pending}
 
 abbrev pub fresh : Csrs

@@ -1,12 +1,12 @@
 -- A run of the machine on four words: two ADDI, an ADD, and a word that is no instruction and stops it.
-use Rattle.std.proofs.Common.{◌≡◌, ℕ, ◌+◌, ◌<◌, ◌≤◌, Bool, true, false, List, [], ◌∷◌, ◌++◌, Option, Some, None, refl, inl, inr, arith, replicate}
+use Rattle.std.proofs.Common.{◌≡◌, ℕ, true, false, [], ◌∷◌, Option, Some, None, refl, inl, inr, arith, replicate}
 use Rattle.core_words.specs.Fields.{imm_i}
 use Rattle.bus_law.specs.Memory.{Memory, word_at}
-use Rattle.isa_model.specs.Machine.{Set, Machine, machine_from, register, misa_of, Event, shown}
+use Rattle.isa_model.specs.Machine.{Set, Machine, machine_from, register, misa_of}
 use Rattle.isa_model.specs.Machine.Fetched.{Word, Error}
 use Rattle.isa_model.specs.Machine.Event.{Retire, Trap}
 use Rattle.isa_model.specs.Step.{Moment, Done, Step, outcome_of}
-use Rattle.isa_model.specs.Run.{Entry, History, now, Possible, IsRun, Continues, IsUnpressed, is_fence}
+use Rattle.isa_model.specs.Run.{History, Possible, IsRun, Continues, is_fence}
 
 abbrev pub every_row : Set
 every_row = record { claims = λ number. true; system = false }

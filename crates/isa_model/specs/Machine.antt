@@ -1,7 +1,7 @@
 -- The state of the machine, its events, and the configured set of instructions.
-use Rattle.std.specs.Prelude.{◌≡◌, ℕ, ◌+◌, Bool, true, false, eqb, List, ◌&&◌, ◌||◌, get_or, set, Option, Some, None}
+use Rattle.std.specs.Prelude.{◌≡◌, ℕ, ◌+◌, Bool, true, false, eqb, List, ◌&&◌, ◌||◌, get_or}
 use Rattle.core_ports.specs.Trace.{PortEvent}
-use Rattle.bus_law.specs.Memory.{Memory, Store}
+use Rattle.bus_law.specs.Memory.{Memory}
 use Rattle.isa_csr.specs.Csrs.{Csrs, reset_csrs}
 use Rattle.isa_table.specs.Rows.{table, is_in_table}
 

@@ -1,7 +1,7 @@
 -- Computed examples: words and their rows, and what a row does.
-use Rattle.std.proofs.Common.{◌≡◌, ℕ, Bool, true, false, eqb, not, Some, None, refl}
+use Rattle.std.proofs.Common.{◌≡◌, ℕ, Bool, true, eqb, not, Some, None, refl}
 use Rattle.core_words.specs.Fields.{imm_i, imm_u}
-use Rattle.isa_table.specs.Rows.{Row, row_of, lui, addi, add, sub, andi, ecall, ebreak}
+use Rattle.isa_table.specs.Rows.{row_of, lui, addi, add, sub, andi, ecall, ebreak}
 use Rattle.isa_table.specs.Rows.Action.{Computes}
 
 abbrev pub every_row : ℕ → Bool

@@ -1,20 +1,20 @@
 -- A counter with an array, cycle by cycle; a module with a loop, and one without whose wires are driven late.
-use Rattle.std.proofs.Common.{◌≡◌, ℕ, zero, suc, ◌<◌, ◌≤◌, ◌+◌, Bool, true, false, cond, List, [], ◌∷◌, Some, None, refl, inl, inr, arith}
+use Rattle.std.proofs.Common.{◌≡◌, ℕ, zero, suc, ◌≤◌, Bool, true, false, cond, List, [], ◌∷◌, Some, None, refl, arith}
 use Rattle.std.specs.Prelude.{codes}
 use Rattle.core_words.specs.Names.{same_name}
 use Rattle.core_ports.specs.Ports.{name_of}
 use Rattle.verilog_tree.specs.declared.expr.BinSign.TheVariants as sign
-use Rattle.verilog_mean.specs.Plain.{Expr, Item, Port, Plain}
-use Rattle.verilog_mean.specs.Plain.Expr.{Literal, Named, Select, Cell, Binary, Join}
+use Rattle.verilog_mean.specs.Plain.{Port, Plain}
+use Rattle.verilog_mean.specs.Plain.Expr.{Literal, Named, Select, Binary, Join}
 use Rattle.verilog_mean.specs.Plain.Exprs.{NoPart, Part}
 use Rattle.verilog_mean.specs.Plain.Item.{Wire, Reg, Array, Assign, Reset, Write}
 use Rattle.verilog_mean.specs.Plain.Port.{In, Out}
 use Rattle.verilog_mean.specs.Cycle.{State, value_to, value, next}
-use Rattle.verilog_mean.specs.Run.{Inputs, state_at, trace_of, IsInput, IsStart}
+use Rattle.verilog_mean.specs.Run.{Inputs, state_at, trace_of}
 use Rattle.verilog_mean.specs.Loops.{Depends, HasNoLoop}
 use Rattle.verilog_mean.specs.Loops.Depends.{direct, further}
 use Rattle.verilog_mean.specs.CorePorts.{HasCorePorts}
-use Rattle.verilog_mean.proofs.Ordered.{IsRanked, lower_by}
+use Rattle.verilog_mean.proofs.Ordered.{lower_by}
 use Rattle.verilog_mean.proofs.NoLoop.{ranked_no_loop}
 
 abbrev pub clock_and_reset : List Port
