@@ -1,19 +1,27 @@
 -- The row of a word, by the tests of the core; and what each row does, by the core's one unit. The unit's parts
 -- are shared, which is right since no word is of two rows: the tests of a word are those of one row, or of none.
-use Rattle.std.proofs.Common.{◌≡◌, ℕ, zero, suc, ◌^◌, ◌<◌, ◌≤◌, Bool, true, false, cond, eqb, bit_and, refl, ap, ◌∙◌, sym, subst, arith, get_or, Option, Some, None}
+use Rattle.std.proofs.Common.{◌≡◌, ℕ, zero, suc, ◌^◌, ◌<◌, ◌≤◌, Bool, true, false, cond, eqb, List, [], ◌∷◌, bit_and, refl, ap, ◌∙◌, sym, subst, arith, get_or, Option, Some, None}
 use Rattle.std.proofs.lemmas.Bool.Decides.{nat_tests}
 use Rattle.std.proofs.lemmas.Nat.{and_mask}
 use Rattle.core_words.specs.Fields.{rs1_of, rs2_of, imm_i, imm_u}
-use Rattle.isa_table.specs.Rows.{Row, table, row_of}
+use Rattle.isa_table.specs.Rows.{Row, row_of}
 use Rattle.isa_table.specs.Rows as row
-use Rattle.isa_table.proofs.Disjoint.{first_row, first_row_le, meets_one}
+use Rattle.isa_table.proofs.Disjoint.{are_apart, first_row, first_le, meets_first}
 use Rattle.isa_model.specs.Machine.{Machine, register, has_row}
 use Rattle.isa_model.specs.Machine.Fetched.{Word}
 use Rattle.isa_model.specs.Step.{Moment, Done, trap, retire, behind, act_of_row, outcome_of}
 use Rattle.fixed_core.specs.FixedSet.{fixed_set}
 use Rattle.fixed_core.proofs.Model.{Tests, tests_of, known, second_by, value_1, value_2, value_3, value_4, value_by, cause_by}
 
--- the tests of a word of the row at a place of the table
+-- the rows of the core; the table may have others, which the set does not claim
+abbrev rows : List Row
+rows =
+    row.lui ∷ row.addi ∷ row.xori ∷ row.ori ∷ row.andi ∷ row.add ∷ row.sub ∷ row.xor ∷ row.or ∷ row.and ∷ row.ecall ∷ row.ebreak ∷ []
+
+rows_are_apart : are_apart rows ≡ true
+rows_are_apart = refl
+
+-- the tests of a word of the row at a place among them
 unfoldable pub tests_at : (place : ℕ) → Tests
 tests_at n = record {
   lui = eqb 0 n;
@@ -33,10 +41,10 @@ tests_at n = record {
 all_bits : (word : ℕ) → word < 2 ^ 32 → bit_and word 0xffffffff ≡ word
 all_bits word h = and_mask word 32 ∙ omega arith
 
-tests_are_one : (word : ℕ) → word < 2 ^ 32 → tests_of word ≡ tests_at (first_row word table)
+tests_are_one : (word : ℕ) → word < 2 ^ 32 → tests_of word ≡ tests_at (first_row word rows)
 unfolding tests_of tests_at
 tests_are_one word h =
-    let at : (k : ℕ) → k < 12 → row.meets word (get_or table k row.lui) ≡ eqb k (first_row word table) = meets_one word in
+    let at : (k : ℕ) → k < 12 → row.meets word (get_or rows k row.lui) ≡ eqb k (first_row word rows) = meets_first word rows rows_are_apart in
     let all = all_bits word h in
     λ i. record {
       lui = at 0 (omega arith) i;
@@ -142,6 +150,6 @@ module _ (m : Machine) (word : ℕ) (moment : Moment) where
   pub word_outcome : word < 2 ^ 32 → outcome_of fixed_set m (Word word) moment ≡ does (tests_of word)
   unfolding outcome_of
   word_outcome h =
-      let small : first_row word table ≤ 12 = first_row_le word in
+      let small : first_row word rows ≤ 12 = first_le word rows in
       ap (act_of_row false m word moment) (row_is_picked word h)
-      ∙ subst (λ t. act_of_row false m word moment (picked t) ≡ does t) (sym (tests_are_one word h)) (acts_at (first_row word table) (omega arith))
+      ∙ subst (λ t. act_of_row false m word moment (picked t) ≡ does t) (sym (tests_are_one word h)) (acts_at (first_row word rows) (omega arith))

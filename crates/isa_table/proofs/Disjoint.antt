@@ -5,15 +5,15 @@ use Rattle.std.proofs.lemmas.Bool.Decides.{nat_tests}
 use Rattle.std.proofs.lemmas.Nat.{and_assoc, and_comm}
 use Rattle.isa_table.specs.Rows.{Row, lui, table, meets}
 
--- the values of two rows differ in a bit that both masks have
-abbrev is_apart : Row → Row → Bool
+-- the values of two rows differ in a bit that both masks have; each test here computes
+abbrev pub is_apart : Row → Row → Bool
 is_apart r s = not (eqb (bit_and r.value s.mask) (bit_and s.value r.mask))
 
-abbrev is_apart_from_all : Row → List Row → Bool
+abbrev pub is_apart_from_all : Row → List Row → Bool
 is_apart_from_all r [] = true
 is_apart_from_all r (s ∷ rest) = is_apart r s && is_apart_from_all r rest
 
-abbrev are_apart : List Row → Bool
+abbrev pub are_apart : List Row → Bool
 are_apart [] = true
 are_apart (r ∷ rest) = is_apart_from_all r rest && are_apart rest
 
@@ -69,7 +69,7 @@ first_row word [] = 0
 first_row word (r ∷ rest) = elim (meets word r) [ true ↦ 0 | false ↦ suc (first_row word rest) ]
 
 module _ (word : ℕ) where
-  first_le : (rows : List Row) → first_row word rows ≤ length rows
+  pub first_le : (rows : List Row) → first_row word rows ≤ length rows
   first_le [] = omega arith
   first_le (r ∷ rest) = step (first_row word rest) (first_le rest) (meets word r)
     where
@@ -90,15 +90,9 @@ module _ (word : ℕ) where
   meets_step r rest none later false e zero l = e ∙ grind (arith, nat_tests)
   meets_step r rest none later false e (suc k) l = later k (omega arith) ∙ grind (arith, nat_tests)
 
-  -- a word is of the row at one place and of no other
-  meets_first : (rows : List Row) → are_apart rows ≡ true → (k : ℕ) → k < length rows
+  -- among rows that are apart a word is of the row at that place, and of no other
+  pub meets_first : (rows : List Row) → are_apart rows ≡ true → (k : ℕ) → k < length rows
       → meets word (get_or rows k lui) ≡ eqb k (first_row word rows)
   meets_first [] h k l = absurd (omega arith)
   meets_first (r ∷ rest) h k l =
       meets_step r rest (λ j e. no_later word r rest (both_left _ _ h) e j) (meets_first rest (both_right _ _ h)) (meets word r) refl k l
-
-pub first_row_le : (word : ℕ) → first_row word table ≤ 12
-first_row_le word = first_le word table
-
-pub meets_one : (word k : ℕ) → k < 12 → meets word (get_or table k lui) ≡ eqb k (first_row word table)
-meets_one word k l = meets_first word table table_is_apart k l
