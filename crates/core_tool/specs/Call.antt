@@ -1,5 +1,5 @@
 -- How a call ends: the ends with their causes, and what each leaves on the ports and of the files.
-use Rattle.std.specs.Prelude.{◌≡◌, ◌⊎◌, ◌++◌, ◌<◌, ◌%◌, ◌^◌, ℕ, List, [], ◌∷◌, Option, Some, None, Ok, Err, codes}
+use Rattle.std.specs.Prelude.{◌≡◌, ◌⊎◌, ◌++◌, ◌<◌, ◌%◌, ◌^◌, ℕ, List, [], Option, Some, None, Ok, Err, codes}
 use Rattle.core_host.specs.Outside.{Files, Rose, Appends, IsCut, IsMissing, SameButOne, PulledAtMost, held}
 use Rattle.fixed_core.specs.Text.{core_text}
 use Rattle.core_tool.specs.declared.status.Status.{Status}
@@ -73,28 +73,103 @@ Holds form (Some files) bytes = (name : List ℕ) × (form ≡ Some (Gen name)) 
 abbrev pub Misses : Option Form → Option Files → Type 0
 Misses form files = (name : List ℕ) × (form ≡ Some (Gen name)) × IsMissing name files
 
--- why a call ends so, by its words, the files, the count of faults of reading before and after, and the reset pc of the call
+-- a reset pc: a multiple of 4 below 2 ^ 32
+abbrev pub IsResetPc : ℕ → Type 0
+IsResetPc n = (n % 4 ≡ 0) × (n < 2 ^ 32)
+
+-- the words name a configuration that gives this reset pc
+abbrev pub Gives : Option Form → Option Files → (reset_pc : ℕ) → Type 0
+Gives form files reset_pc = IsResetPc reset_pc × ForConfig form files (λ bytes. config_of bytes ≡ Ok reset_pc)
+
+-- the words name a configuration that is refused so
+abbrev pub IsRefusedAs : Option Form → Option Files → ConfigRefusal → Type 0
+IsRefusedAs form files refusal = ForConfig form files (λ bytes. config_of bytes ≡ Err refusal)
+
+-- the words name a file that is not held, or the count of faults of reading rose
+abbrev pub IsUnread : Option Form → Option Files → (before now : ℕ) → Type 0
+IsUnread form files before now = (name : List ℕ) × (form ≡ Some (Gen name)) × (Rose before now ⊎ IsMissing name files)
+
+-- why a call ends so: by its form, the files, the count of faults of reading before and after, and its reset pc
 abbrev pub IsCause : Option Form → Option Files → (before now : ℕ) → (reset_pc : ℕ) → CallEnd → Type 0
-IsCause form files before now reset_pc Written = ForConfig form files (λ bytes. config_of bytes ≡ Ok reset_pc)
+IsCause form files before now reset_pc Written = Gives form files reset_pc
 IsCause form files before now reset_pc BadWords = form ≡ None
-IsCause form files before now reset_pc (Refused refusal) = ForConfig form files (λ bytes. config_of bytes ≡ Err refusal)
-IsCause form files before now reset_pc BadFile = (name : List ℕ) × (form ≡ Some (Gen name)) × (Rose before now ⊎ IsMissing name files)
+IsCause form files before now reset_pc (Refused refusal) = IsRefusedAs form files refusal
+IsCause form files before now reset_pc BadFile = IsUnread form files before now
 IsCause form files before now reset_pc OutOfMemory = Unit {0}
-IsCause form files before now reset_pc Unwritten = ForConfig form files (λ bytes. config_of bytes ≡ Ok reset_pc)
+IsCause form files before now reset_pc Unwritten = Gives form files reset_pc
 
--- what the work leaves on the main port
+-- a port got a text for that reset pc; it got a proper prefix of one
+abbrev pub GotText : (reset_pc : ℕ) → (old new : Option (List ℕ)) → Type 0
+GotText reset_pc old new = (text : List ℕ) × IsTextFor reset_pc text × Appends old text new
+
+abbrev pub GotCutText : (reset_pc : ℕ) → (old new : Option (List ℕ)) → Type 0
+GotCutText reset_pc old new = (text : List ℕ) × IsTextFor reset_pc text × IsCut old text new
+
+-- what a call that ends so leaves on the main port
 abbrev pub OnMain : (reset_pc : ℕ) → CallEnd → (old new : Option (List ℕ)) → Type 0
-OnMain reset_pc Written old new = (text : List ℕ) × IsTextFor reset_pc text × Appends old text new
-OnMain reset_pc Unwritten old new = (text : List ℕ) × IsTextFor reset_pc text × IsCut old text new
-OnMain reset_pc _ old new = new ≡ old
+OnMain reset_pc Written old new = GotText reset_pc old new
+OnMain reset_pc BadWords old new = new ≡ old
+OnMain reset_pc (Refused refusal) old new = new ≡ old
+OnMain reset_pc BadFile old new = new ≡ old
+OnMain reset_pc OutOfMemory old new = new ≡ old
+OnMain reset_pc Unwritten old new = GotCutText reset_pc old new
 
--- the line of the end is written, or cut off by a failed push
-abbrev pub OnNotes : CallEnd → Status → (old new : Option (List ℕ)) → (before now : ℕ) → Type 0
+-- the line of the end is written and its status answered, or the line is cut off by a failed push
+abbrev pub OnNotes : CallEnd → (result : Status) → (old new : Option (List ℕ)) → (before now : ℕ) → Type 0
 OnNotes end result old new before now = ((result ≡ status_of end) × Appends old (line_of end) new)
     ⊎ ((result ≡ WriteFault) × IsCut old (line_of end) new × Rose before now)
 
--- of the opened files at most one has changed, and at most so many bytes of it were pulled, unless the count of faults of reading rose
-abbrev pub Pulled : ℕ → Option Form → Option Files → (old new : ℕ → List ℕ) → (before now : ℕ) → Type 0
+-- the work ends so: the end has its cause and left on the main port what it says, both for one reset pc
+pub record IsEnd (form : Option Form) (files : Option Files) (reads reads' writes writes' : ℕ) (main main' : Option (List ℕ)) (end : CallEnd) : Type 0 where
+  pub reset_pc : ℕ
+  pub cause : IsCause form files reads reads' reset_pc end
+  pub on_main : OnMain reset_pc end main main'
+  pub unwritten : end ≡ Unwritten → Rose writes writes'
+
+-- the call ends by some end, and left on the port of notes what that end says
+pub record Ends (form : Option Form) (files : Option Files) (reads reads' writes writes' : ℕ) (main main' notes notes' : Option (List ℕ)) (result : Status) : Type 0 where
+  pub end : CallEnd
+  pub is_end : IsEnd form files reads reads' writes writes' main main' end
+  pub on_notes : OnNotes end result notes notes' writes writes'
+
+-- the statuses that a call answers
+abbrev pub IsAnswered : Status → Type 0
+IsAnswered Done = Unit {0}
+IsAnswered Usage = Unit {0}
+IsAnswered ConfigRefused = Unit {0}
+IsAnswered RulesRefused = ⊥
+IsAnswered ImageRefused = ⊥
+IsAnswered ReadFault = Unit {0}
+IsAnswered WriteFault = Unit {0}
+IsAnswered NoMemory = Unit {0}
+IsAnswered CyclesEnded = ⊥
+IsAnswered ModuleRefused = ⊥
+IsAnswered Stopped = ⊥
+
+-- the status is this one, unless a push failed or memory is wanting
+abbrev pub IsUnlessCut : (wanted result : Status) → Type 0
+IsUnlessCut wanted result = (result ≡ wanted) ⊎ (result ≡ WriteFault) ⊎ (result ≡ NoMemory)
+
+-- what a call that answers so left on the port of notes, where no push failed
+abbrev pub HasLine : (result : Status) → (old new : Option (List ℕ)) → Type 0
+HasLine Done old new = new ≡ old
+HasLine Usage old new = Appends old (codes "usage\n") new
+HasLine ConfigRefused old new = (refusal : ConfigRefusal) × Appends old (refusal_line refusal) new
+HasLine ReadFault old new = Appends old (codes "read fault\n") new
+HasLine NoMemory old new = Appends old (codes "no memory\n") new
+HasLine _ old new = Unit {0}
+
+-- a line of an end whose cause holds is cut off, and the main port is as before
+pub record IsCutLine (form : Option Form) (files : Option Files) (reads reads' : ℕ) (main main' notes notes' : Option (List ℕ)) : Type 0 where
+  pub end : CallEnd
+  pub reset_pc : ℕ
+  pub cause : IsCause form files reads reads' reset_pc end
+  pub cut : IsCut notes (line_of end) notes'
+  pub same_main : main' ≡ main
+
+-- of the opened files none has changed, or one alone: that which the words name, and at most so many bytes of it
+-- were pulled, unless the count of faults of reading rose
+abbrev pub Pulled : (most : ℕ) → Option Form → Option Files → (old new : ℕ → List ℕ) → (before now : ℕ) → Type 0
 Pulled most form files old new before now = ((m : ℕ) → new m ≡ old m)
     ⊎ ((name : List ℕ) × (n : ℕ) × (form ≡ Some (Gen name)) × SameButOne n old new
     × (Rose before now ⊎ PulledAtMost most name files (new n)))

@@ -1,10 +1,9 @@
 -- What a configuration says: its reset pc, or why it is refused.
-use Rattle.std.specs.Prelude.{ℕ, ℤ, pos, negsuc, ◌%◌, nat_eq, nat_lt, nat_le, List, length, Option, Some, None, Result, Ok, Err, Bool, ◌&&◌, if◌then◌else◌, codes}
+use Rattle.std.specs.Prelude.{ℕ, ℤ, pos, negsuc, ◌%◌, nat_eq, nat_lt, nat_le, List, length, Option, Some, None, Result, Ok, Err, ◌&&◌, if◌then◌else◌, codes}
 use Rattle.std.specs.Str.{is_utf8}
 use Rattle.std.specs.Cmp.Lexicographic.{pointwise}
 use Rattle.toml.specs.Data.{Data, integer, Members, no_members, member, get_member}
 use Rattle.toml.specs.Parse.{parse_document}
-use Rattle.core_tool.specs.declared.config.Want.{Want}
 use Rattle.core_tool.specs.declared.config.Want.TheVariants.{Integer, NoKey}
 use Rattle.core_tool.specs.declared.config.ConfigRefusal.{ConfigRefusal}
 use Rattle.core_tool.specs.declared.config.ConfigRefusal.TheVariants.{TooLong, Text, Shape, Range}

@@ -46,7 +46,10 @@ pub enum ConfigError {
 }
 
 impl From<AllocError> for ConfigError {
-    ghost from_gives = { λ _ e. e ≡ ConfigError.NoMemory };
+    ghost use Rattle.std.specs.Prelude.{◌≡◌};
+    ghost use Rattle.core_tool.specs.declared.config.ConfigError.TheVariants.{NoMemory};
+
+    ghost from_gives = { λ _ e. e ≡ NoMemory };
 
     fn from(_error: AllocError) -> ConfigError {
         ConfigError::NoMemory

@@ -1,5 +1,5 @@
-ghost use Rattle.std.specs.Prelude.{◌≡◌, map, option_map, string_bytes};
-ghost use Rattle.core_tool.specs.Words.{form_of, is_name_lem, seen};
+ghost use Rattle.std.specs.Prelude.{◌≡◌, option_map};
+ghost use Rattle.core_tool.specs.Words.{form_of, is_name_lem, seen, words_of};
 
 /// What the words of a call ask for.
 #[derive(Clone, Copy, Debug)]
@@ -11,7 +11,7 @@ pub enum Form<'a> {
 impl<'a> Form<'a> {
     /// The form of the words, without the program's name. No other words are a call.
     pub fn of(words: &'a Vec<String>) -> Option<Form<'a>>
-        ensures { option_map seen result ≡ form_of (map string_bytes words.now.items) }
+        ensures { option_map seen result ≡ form_of (words_of words.now) }
     {
         if words.len() != 2 || words[0].as_str() != "gen" {
             return None;
