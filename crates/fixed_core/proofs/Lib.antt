@@ -13,3 +13,4 @@ pub mod Follow
 pub mod CoreRefines
 pub mod RunExample
 pub mod CoreLaw
+pub mod Pushes

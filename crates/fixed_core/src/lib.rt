@@ -5,9 +5,11 @@
 #![tactic(auto)]
 
 mod law;
+mod push;
 mod refines;
 mod text;
 
 pub use law::fixed_text_is_a_core;
+pub use push::push_core;
 pub use refines::fixed_core_refines;
 pub use text::{AFTER_RESET_PC, BEFORE_RESET_PC};

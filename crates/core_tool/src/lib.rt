@@ -1,0 +1,15 @@
+//! The calls of the program, over a host: what its words ask for, and how a call ends.
+#![tactic(auto)]
+
+mod call;
+mod config;
+mod ends;
+mod status;
+mod words;
+
+pub use call::core_main;
+pub use status::Status;
+use words::Form;
+
+#[cfg(test)]
+mod tests;

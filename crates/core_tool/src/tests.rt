@@ -1,0 +1,222 @@
+use crate::{Status, core_main};
+use core_host::{List, MemFile, MemHost, Name, Port};
+use std::alloc::{AllocError, Global};
+use std::test::Fail;
+
+const ROOM: u32 = 33_554_432;
+
+/// A host that holds this text as the file `c`.
+fn host(
+    alloc: Global,
+    text: &[u8],
+    fails: &[u32],
+    bite: u32,
+    room: u32,
+) -> Result<MemHost, AllocError> {
+    let files = vec![in alloc;
+        MemFile {
+            name: Name::of(String::from_str(alloc, "c")?),
+            bytes: List::of(Vec::from_slice(alloc, text)?),
+        },
+    ]?;
+    MemHost::new(alloc, files, Vec::from_slice(alloc, fails)?, bite, room)
+}
+
+/// Words in a row, with a space between any two.
+fn words(alloc: Global, text: &str) -> Result<Vec<String>, AllocError> {
+    let mut words = Vec::new(alloc);
+    for word in text.split(' ') {
+        words.push(String::from_str(alloc, word)?)?;
+    }
+    Ok(words)
+}
+
+#[test]
+fn writes_a_core(rt: HostRuntime) -> Result<(), Fail> {
+    let alloc = rt.alloc();
+    let mut host = host(alloc, b"reset_pc = 0x80000000", &[], 0, ROOM)?;
+    let status = core_main(alloc, &words(alloc, "gen c")?, &mut host);
+    assert_eq!(rt; status, Status::Done);
+    let text = host.pushed(Port::Main).as_slice();
+    assert!(rt; text.starts_with(b"module core(".as_slice()));
+    assert!(rt; text.ends_with(b"pc <= 32'h80000000; else pc <= pc_next;\nendmodule\n".as_slice()));
+    assert!(rt; host.pushed(Port::Notes).is_empty());
+    Ok(())
+}
+
+#[test]
+fn refuses_configurations(rt: HostRuntime) -> Result<(), Fail> {
+    let alloc = rt.alloc();
+    for (text, line) in [
+        ("reset_pc = 2147483646", "config range key=reset_pc\n"),
+        ("reset_pc = 4294967296", "config range key=reset_pc\n"),
+        ("reset_pc = -4", "config range key=reset_pc\n"),
+        ("a = 1\nreset_pc = 1", "config range key=reset_pc\n"),
+        (
+            "reset_pc = \"x\"",
+            "config shape key=reset_pc want=integer\n",
+        ),
+        ("stages = 4", "config shape key=stages want=nokey\n"),
+        ("b = 1\na = 1", "config shape key=a want=nokey\n"),
+        ("\"\" = 1", "config shape key= want=nokey\n"),
+        ("\"a\\nb\" = 1", "config shape key=a\nb want=nokey\n"),
+        ("reset_pc =", "config text\n"),
+    ] {
+        let mut host = host(alloc, text.as_bytes(), &[], 0, 4096)?;
+        let status = core_main(alloc, &words(alloc, "gen c")?, &mut host);
+        assert_eq!(rt; status, Status::ConfigRefused, "{text}");
+        assert_eq!(rt;
+            host.pushed(Port::Notes).as_slice(),
+            line.as_bytes(),
+            "{text}"
+        );
+        assert!(rt; host.pushed(Port::Main).is_empty(), "{text}");
+    }
+    Ok(())
+}
+
+#[test]
+fn refuses_words(rt: HostRuntime) -> Result<(), Fail> {
+    let alloc = rt.alloc();
+    for text in [
+        "gen",
+        "gen ",
+        "gen -c",
+        "gen c d",
+        "rules c",
+        "gen --help",
+        "GEN c",
+        "-",
+        "c gen",
+    ] {
+        let mut host = host(alloc, b"", &[], 0, 4096)?;
+        let status = core_main(alloc, &words(alloc, text)?, &mut host);
+        assert_eq!(rt; status, Status::Usage, "{text}");
+        assert_eq!(rt;
+            host.pushed(Port::Notes).as_slice(),
+            b"usage\n".as_slice(),
+            "{text}"
+        );
+        assert!(rt; host.pushed(Port::Main).is_empty(), "{text}");
+    }
+    let mut host = host(alloc, b"", &[], 0, 4096)?;
+    assert_eq!(rt;
+        core_main(alloc, &Vec::new(alloc), &mut host),
+        Status::Usage,
+        "no words"
+    );
+    assert_eq!(rt; host.pushed(Port::Notes).as_slice(), b"usage\n".as_slice());
+    Ok(())
+}
+
+#[test]
+fn ends_where_a_file_is_missing_or_long(rt: HostRuntime) -> Result<(), Fail> {
+    let alloc = rt.alloc();
+    let mut missing = host(alloc, b"", &[], 0, 4096)?;
+    let status = core_main(alloc, &words(alloc, "gen d")?, &mut missing);
+    assert_eq!(rt; status, Status::ReadFault);
+    assert_eq!(rt;
+        missing.pushed(Port::Notes).as_slice(),
+        b"read fault\n".as_slice()
+    );
+    assert!(rt; missing.pushed(Port::Main).is_empty());
+
+    let mut comment = vec![in alloc; b'#'; 1_048_576]?;
+    let mut whole = host(alloc, &comment, &[], 0, ROOM)?;
+    let status = core_main(alloc, &words(alloc, "gen c")?, &mut whole);
+    assert_eq!(rt; status, Status::Done);
+    comment.push(b'#')?;
+    let mut long = host(alloc, &comment, &[], 0, 4096)?;
+    let status = core_main(alloc, &words(alloc, "gen c")?, &mut long);
+    assert_eq!(rt; status, Status::ConfigRefused);
+    assert_eq!(rt;
+        long.pushed(Port::Notes).as_slice(),
+        b"config long\n".as_slice()
+    );
+    assert!(rt; long.pushed(Port::Main).is_empty());
+    Ok(())
+}
+
+#[test]
+fn cuts_the_text_off_where_a_push_fails(rt: HostRuntime) -> Result<(), Fail> {
+    let alloc = rt.alloc();
+    let text = b"reset_pc = 0x80000000";
+    let mut whole = host(alloc, text, &[], 0, ROOM)?;
+    assert_eq!(rt;
+        core_main(alloc, &words(alloc, "gen c")?, &mut whole),
+        Status::Done
+    );
+    // One call finds the file, two read it, and the third push fails.
+    let mut cut = host(alloc, text, &[6], 100, ROOM)?;
+    assert_eq!(rt;
+        core_main(alloc, &words(alloc, "gen c")?, &mut cut),
+        Status::WriteFault
+    );
+    assert_eq!(rt; cut.pushed(Port::Main).len(), 200);
+    assert!(rt;
+        whole
+            .pushed(Port::Main)
+            .as_slice()
+            .starts_with(cut.pushed(Port::Main).as_slice())
+    );
+    assert!(rt; cut.pushed(Port::Notes).is_empty());
+    Ok(())
+}
+
+#[test]
+fn ends_where_the_line_is_cut_off(rt: HostRuntime) -> Result<(), Fail> {
+    let alloc = rt.alloc();
+    let mut host = host(alloc, b"reset_pc = 2147483646", &[4], 0, 4096)?;
+    assert_eq!(rt;
+        core_main(alloc, &words(alloc, "gen c")?, &mut host),
+        Status::WriteFault
+    );
+    assert!(rt; host.pushed(Port::Main).is_empty());
+    assert!(rt; host.pushed(Port::Notes).is_empty());
+    Ok(())
+}
+
+#[test]
+fn ends_where_one_call_fails(rt: HostRuntime) -> Result<(), Fail> {
+    let alloc = rt.alloc();
+    let text = b"reset_pc = 0x80000000";
+    let mut whole = host(alloc, text, &[], 0, 8192)?;
+    assert_eq!(rt;
+        core_main(alloc, &words(alloc, "gen c")?, &mut whole),
+        Status::Done
+    );
+    let core = whole.pushed(Port::Main).as_slice();
+    // One call finds the file, two read it, and three write the text.
+    for (call, status) in [
+        (1, Status::ReadFault),
+        (2, Status::ReadFault),
+        (3, Status::ReadFault),
+        (4, Status::WriteFault),
+        (5, Status::WriteFault),
+        (6, Status::WriteFault),
+        (7, Status::Done),
+        (8, Status::Done),
+        (9, Status::Done),
+        (10, Status::Done),
+        (11, Status::Done),
+        (12, Status::Done),
+    ] {
+        let mut host = host(alloc, text, &[call], 0, 8192)?;
+        assert_eq!(rt;
+            core_main(alloc, &words(alloc, "gen c")?, &mut host),
+            status,
+            "{call}"
+        );
+        let pushed = host.pushed(Port::Main).as_slice();
+        assert!(rt; core.starts_with(pushed), "{call}");
+        assert_eq!(rt; pushed.is_empty(), call < 5, "{call}");
+        assert_eq!(rt; pushed.len() == core.len(), call > 6, "{call}");
+        let notes = if call < 4 { "read fault\n" } else { "" };
+        assert_eq!(rt;
+            host.pushed(Port::Notes).as_slice(),
+            notes.as_bytes(),
+            "{call}"
+        );
+    }
+    Ok(())
+}

@@ -1,0 +1,56 @@
+ghost use Rattle.std.specs.Prelude.{◌≡◌, ◌≤◌, ◌<◌, ◌%◌, ◌/◌, ℕ, OnOk, OnErr};
+ghost use Rattle.core_host.specs.declared.host.Port.{Port};
+ghost use Rattle.core_host.specs.declared.host.Port.TheVariants.{Main};
+ghost use Rattle.core_host.specs.Outside.{Rose, Appends, IsCut};
+ghost use Rattle.verilog_tree.specs.Hex.{hex_digit, hex8};
+ghost use Rattle.fixed_core.specs.Text.{core_text};
+
+use crate::{AFTER_RESET_PC, BEFORE_RESET_PC};
+use core_host::{Host, HostFailed, Port, push_all};
+
+/// Pushes the text of the core with this reset pc on the main port. It takes no memory.
+pub fn push_core<H: Host>(host: &mut H, reset_pc: u32) -> Result<(), HostFailed>
+    requires aligned { reset_pc % 4 ≡ 0 }
+    ensures whole { OnOk result (Appends (H.pushed host.old Main) (core_text reset_pc) (H.pushed host.new Main)) }
+    ensures part { OnErr result (IsCut (H.pushed host.old Main) (core_text reset_pc) (H.pushed host.new Main)) }
+    ensures cause { OnErr result (Rose (H.write_faults host.old) (H.write_faults host.new)) }
+    ensures others { (p : Port) → ¬ (p ≡ Main) → H.pushed host.new p ≡ H.pushed host.old p }
+    ensures left { (m : ℕ) → H.left host.new m ≡ H.left host.old m }
+    ensures files { H.files host.new ≡ H.files host.old }
+    ensures numbers { (m : ℕ) → H.given host.old m → H.given host.new m }
+    ensures names { (m : ℕ) → H.given host.old m → H.opened host.new m ≡ H.opened host.old m }
+    ensures reads { H.read_faults host.old ≤ H.read_faults host.new }
+    ensures writes { H.write_faults host.old ≤ H.write_faults host.new }
+{
+    push_all(host, Port::Main, BEFORE_RESET_PC.as_bytes())?;
+    push_all(host, Port::Main, &hex_digits(reset_pc))?;
+    push_all(host, Port::Main, AFTER_RESET_PC.as_bytes())
+}
+
+/// The eight hexadecimal digits of a number, the highest first.
+fn hex_digits(number: u32) -> [u8; 8]
+    ensures { result ≡ hex8 number }
+{
+    [
+        digit_byte(number / 0x1000_0000 % 16),
+        digit_byte(number / 0x100_0000 % 16),
+        digit_byte(number / 0x10_0000 % 16),
+        digit_byte(number / 0x1_0000 % 16),
+        digit_byte(number / 0x1000 % 16),
+        digit_byte(number / 0x100 % 16),
+        digit_byte(number / 0x10 % 16),
+        digit_byte(number % 16),
+    ]
+}
+
+/// The byte of a digit: 0 to 9, and a to f.
+fn digit_byte(digit: u32) -> u8
+    requires { digit < 16 }
+    ensures { result ≡ hex_digit digit }
+{
+    if digit < 10 {
+        b'0' + digit as u8
+    } else {
+        b'a' + (digit as u8 - 10)
+    }
+}
