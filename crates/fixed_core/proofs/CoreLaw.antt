@@ -5,7 +5,7 @@ use Rattle.verilog_mean.specs.Plain.{Plain}
 use Rattle.pipe_refine.specs.Refines.{Refines}
 use Rattle.pipe_refine.specs.CoreText.{IsCoreText}
 use Rattle.fixed_core.specs.FixedSet.{fixed_set}
-use Rattle.fixed_core.specs.Text.{core_text}
+use Rattle.fixed_core.specs.Text.{core_text, IsFixedCoreText}
 use Rattle.fixed_core.proofs.CoreTree.{core_tree, core_text_reads}
 use Rattle.fixed_core.proofs.CoreSound.{core_tree_plain, core_is_sound}
 use Rattle.fixed_core.proofs.CoreRefines.{core_refines}
@@ -40,3 +40,7 @@ core_text_is_a_core reset_pc a b = record {
   refines = subst (λ (m : Plain). Refines m fixed_set reset_pc) (sym (core_tree_plain reset_pc)) (core_refines reset_pc a b);
   tree_claim = tt;
 }
+
+pub core_text_is_fixed : (reset_pc : ℕ) → reset_pc % 4 ≡ 0 → reset_pc < 2 ^ 32 → IsFixedCoreText reset_pc (core_text reset_pc)
+unfolding IsFixedCoreText
+core_text_is_fixed = core_text_is_a_core
