@@ -1,6 +1,6 @@
 -- The instructions of the fixed core: LUI, ADDI, XORI, ORI, ANDI, ADD, SUB, XOR, OR, AND, and ECALL and
 -- EBREAK, which every set has. It has no CSRs, so every trap stops it.
-use Rattle.std.specs.Prelude.{ℕ, Bool, true, false, eqb, List, [], ◌∷◌, ◌||◌}
+use Rattle.std.specs.Prelude.{ℕ, Bool, false, eqb, List, [], ◌∷◌, ◌||◌}
 use Rattle.isa_model.specs.Machine.{Set}
 
 abbrev pub is_number_in : List ℕ → ℕ → Bool
