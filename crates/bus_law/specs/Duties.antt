@@ -1,5 +1,5 @@
 -- The three duties of a core on a bus, and the cycle in which one is broken.
-use Rattle.std.specs.Prelude.{◌≡◌, ℕ, zero, suc, ◌%◌, ◌<◌, Bool, true, false, not, eqb, ◌&&◌, ◌||◌, is_some}
+use Rattle.std.specs.Prelude.{◌≡◌, ℕ, zero, suc, ◌%◌, Bool, true, false, not, eqb, ◌&&◌, ◌||◌, is_some}
 use Rattle.core_ports.specs.Trace.{Bus}
 use Rattle.bus_law.specs.Protocol.{is_given, is_accepted, owed}
 

@@ -47,7 +47,8 @@ written m a value mask = elim (is_inside m a) [
   | true ↦ record { base = m.base; bytes = put_lane m a value mask 3 (put_lane m a value mask 2 (put_lane m a value mask 1 (put_lane m a value mask 0 m.bytes))) }
 ]
 
--- a write of the data bus: an aligned address, a word whose lanes outside the mask are 0, and a mask of four bits
+-- a write of the data bus, as `store_of` makes it: an aligned address, a word whose lanes outside the mask are 0,
+-- and a mask of four bits
 pub record Store : Type 0 where
   pub addr : ℕ
   pub value : ℕ

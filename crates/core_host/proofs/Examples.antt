@@ -1,6 +1,6 @@
 -- Computed examples of the definitions, both ways.
-use Rattle.std.proofs.Common.{◌≡◌, ◌≤◌, ◌^◌, ◌-◌, ℕ, List, [], ◌∷◌, length, zero, suc, Some, None, refl, arith}
-use Rattle.core_host.specs.Outside.{Files, held, Rose, Appends, IsCut, grown}
+use Rattle.std.proofs.Common.{◌≡◌, ◌^◌, ◌-◌, [], ◌∷◌, zero, suc, Some, None, refl, arith}
+use Rattle.core_host.specs.Outside.{Files, held, Rose, IsCut}
 use Rattle.core_host.specs.Memory.{moved_count}
 
 -- the files a, b and a again

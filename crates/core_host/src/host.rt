@@ -50,7 +50,8 @@ pub trait Host {
         ensures again { IfOk result (λ n. given self.old n → opened self.old n ≡ Some name.now) }
         ensures named { IfOk result (λ n. IsNameOf name.now (opened self.new n)) }
         ensures others { (m : ℕ) → ¬ (result ≡ Ok m) → left self.new m ≡ left self.old m }
-        ensures cause { OnErr result (Rose (read_faults self.old) (read_faults self.new) ⊎ IsMissing name.now (files self.old)) }
+        ensures cause { OnErr result (Rose (read_faults self.old) (read_faults self.new)
+            ⊎ IsMissing name.now (files self.old)) }
         ensures files { files self.new ≡ files self.old }
         ensures numbers { (m : ℕ) → given self.old m → given self.new m }
         ensures names { (m : ℕ) → given self.old m → opened self.new m ≡ opened self.old m }
@@ -65,7 +66,8 @@ pub trait Host {
         requires some { 0 < length into.old }
         requires open { given self.old file }
         ensures count { IfOk result (λ k. k ≤ length into.old) }
-        ensures bytes { IfOk result (λ k. Pulls (files self.old) (left self.old file) (left self.new file) k into.old into.new) }
+        ensures bytes { IfOk result (λ k. Pulls (files self.old) (left self.old file)
+            (left self.new file) k into.old into.new) }
         ensures others { (m : ℕ) → ¬ (m ≡ file) → left self.new m ≡ left self.old m }
         ensures cause { OnErr result (Rose (read_faults self.old) (read_faults self.new)) }
         ensures files { files self.new ≡ files self.old }
@@ -79,7 +81,8 @@ pub trait Host {
     fn push(&mut self, port: Port, bytes: &[u8]) -> Result<usize, HostFailed>
         requires { 0 < length bytes.now }
         ensures count { IfOk result (λ k. (0 < k) × (k ≤ length bytes.now)) }
-        ensures bytes { IfOk result (λ k. Appends (pushed self.old port) (take k bytes.now) (pushed self.new port)) }
+        ensures bytes { IfOk result (λ k. Appends (pushed self.old port) (take k bytes.now)
+            (pushed self.new port)) }
         ensures failed { OnErr result (pushed self.new port ≡ pushed self.old port) }
         ensures cause { OnErr result (Rose (write_faults self.old) (write_faults self.new)) }
         ensures others { (p : Port) → ¬ (p ≡ port) → pushed self.new p ≡ pushed self.old p }

@@ -27,12 +27,14 @@ pub fn read_file<H: Host>(
     requires { limit < 2 ^ 32 }
     ensures bytes { IfOk result (λ v. IsRead limit name.now (H.files host.old) v.items) }
     ensures short { IfOk result (λ v. length v.items ≤ limit + 1) }
-    ensures cause { (result ≡ Err ReadEnd.Fault) → Rose (H.read_faults host.old) (H.read_faults host.new) ⊎ IsMissing name.now (H.files host.old) }
+    ensures cause { (result ≡ Err ReadEnd.Fault) → Rose (H.read_faults host.old) (H.read_faults host.new)
+        ⊎ IsMissing name.now (H.files host.old) }
     // At most one opened file has changed. Unless the end is a fault, no more than this was pulled.
     ensures pulled { (n : ℕ) × SameButOne n (H.left host.old) (H.left host.new)
         × IfOk result (λ v. H.given host.new n × IsReadWith limit name.now (H.files host.old) v.items (H.left host.new n))
         × ((result ≡ Err ReadEnd.Fault) ⊎ PulledAtMost (limit + 1) name.now (H.files host.old) (H.left host.new n)) }
-    ensures missing { IsMissing name.now (H.files host.old) → (result ≡ Err ReadEnd.Fault) × ((m : ℕ) → H.left host.new m ≡ H.left host.old m) }
+    ensures missing { IsMissing name.now (H.files host.old) → (result ≡ Err ReadEnd.Fault) × ((m : ℕ)
+        → H.left host.new m ≡ H.left host.old m) }
     ensures files { H.files host.new ≡ H.files host.old }
     ensures numbers { (m : ℕ) → H.given host.old m → H.given host.new m }
     ensures names { (m : ℕ) → H.given host.old m → H.opened host.new m ≡ H.opened host.old m }
@@ -55,11 +57,14 @@ fn read_rest<H: Host>(
 ) -> Result<Vec<u8>, ReadEnd>
     requires limit { limit < 2 ^ 32 }
     requires open { H.given host.old file }
-    ensures bytes { IfOk result (λ v. Splits (H.files host.old) (H.left host.old file) v.items (H.left host.new file)) }
-    ensures ends { IfOk result (λ v. length v.items ≤ limit → IsAtEnd (H.files host.old) (H.left host.new file)) }
+    ensures bytes { IfOk result (λ v. Splits (H.files host.old)
+        (H.left host.old file) v.items (H.left host.new file)) }
+    ensures ends { IfOk result (λ v. length v.items ≤ limit
+        → IsAtEnd (H.files host.old) (H.left host.new file)) }
     ensures short { IfOk result (λ v. length v.items ≤ limit + 1) }
     ensures cause { (result ≡ Err ReadEnd.Fault) → Rose (H.read_faults host.old) (H.read_faults host.new) }
-    ensures memory { (result ≡ Err ReadEnd.NoMemory) → TakesAtMost (limit + 1) (H.files host.old) (H.left host.old file) (H.left host.new file) }
+    ensures memory { (result ≡ Err ReadEnd.NoMemory) → TakesAtMost (limit + 1) (H.files host.old)
+        (H.left host.old file) (H.left host.new file) }
     ensures others { SameButOne file (H.left host.old) (H.left host.new) }
     ensures files { H.files host.new ≡ H.files host.old }
     ensures numbers { (m : ℕ) → H.given host.old m → H.given host.new m }

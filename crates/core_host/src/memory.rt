@@ -41,9 +41,22 @@ impl Model for MemHost {
 
     ghost Value = { Memory };
 
-    ghost view = { λ h. record { files = h.files.items; given = h.given.items; taken = h.taken.items; main = h.main.items; notes = h.notes.items; fails = h.fails.items; bite = h.bite; room = h.room; calls = h.calls; read_faults = h.read_faults; write_faults = h.write_faults } };
+    ghost view = { λ h. record {
+      files = h.files.items;
+      given = h.given.items;
+      taken = h.taken.items;
+      main = h.main.items;
+      notes = h.notes.items;
+      fails = h.fails.items;
+      bite = h.bite;
+      room = h.room;
+      calls = h.calls;
+      read_faults = h.read_faults;
+      write_faults = h.write_faults;
+    } };
 
-    ghost invariant = { λ h. (length h.given.items ≡ length h.files.items) × (length h.taken.items ≡ length h.files.items) × (length h.files.items < 2 ^ 32) × (h.room ≤ vec_capacity h.main) × (h.room ≤ vec_capacity h.notes) };
+    ghost invariant = { λ h. (length h.given.items ≡ length h.files.items) × (length h.taken.items ≡ length h.files.items)
+        × (length h.files.items < 2 ^ 32) × (h.room ≤ vec_capacity h.main) × (h.room ≤ vec_capacity h.notes) };
 }
 
 impl MemHost {
@@ -114,7 +127,8 @@ fn place_of(files: &Vec<MemFile>, name: &str) -> Option<usize>
     ensures none { IfNone result (held name.now (pairs files.now.items) ≡ None) }
     ensures bound { IfSome result (λ i. i < length files.now.items) }
     ensures named { IfSome result (λ i. (get_or files.now.items i no_file).name ≡ name.now) }
-    ensures held { IfSome result (λ i. held name.now (pairs files.now.items) ≡ Some (get_or files.now.items i no_file).bytes) }
+    ensures held { IfSome result (λ i. held name.now (pairs files.now.items)
+        ≡ Some (get_or files.now.items i no_file).bytes) }
 {
     for (i, file) in files.iter().enumerate() {
         if file.name.is(name) {
@@ -207,7 +221,8 @@ impl Host for MemHost {
         ensures again { IfOk result (λ n. IsGiven self.old n → name_in self.old n ≡ Some name.now) }
         ensures named { IfOk result (λ n. IsNameOf name.now (name_in self.new n)) }
         ensures others { (m : ℕ) → ¬ (result ≡ Ok m) → left_in self.new m ≡ left_in self.old m }
-        ensures cause { OnErr result (Rose self.old.read_faults self.new.read_faults ⊎ IsMissing name.now (Some (pairs self.old.files))) }
+        ensures cause { OnErr result (Rose self.old.read_faults self.new.read_faults
+            ⊎ IsMissing name.now (Some (pairs self.old.files))) }
         ensures files { Some (pairs self.new.files) ≡ Some (pairs self.old.files) }
         ensures numbers { (m : ℕ) → IsGiven self.old m → IsGiven self.new m }
         ensures names { (m : ℕ) → IsGiven self.old m → name_in self.new m ≡ name_in self.old m }
@@ -215,10 +230,13 @@ impl Host for MemHost {
         ensures reads { self.old.read_faults ≤ self.new.read_faults }
         ensures writes { self.old.write_faults ≤ self.new.write_faults }
         // Exactly these calls fail, and this is what else changes.
-        ensures fails { IsErr result ↔ (IsTrue (is_to_fail self.old) ⊎ (held name.now (pairs self.old.files) ≡ None)) }
-        ensures failed { OnErr result (self.new ≡ (if is_to_fail self.old then read_failed self.old else called self.old)) }
+        ensures fails { IsErr result ↔ (IsTrue (is_to_fail self.old)
+            ⊎ (held name.now (pairs self.old.files) ≡ None)) }
+        ensures failed { OnErr result (self.new
+            ≡ (if is_to_fail self.old then read_failed self.old else called self.old)) }
         ensures place { IfOk result (λ n. place name.now self.old.files ≡ Some n) }
-        ensures only { IfOk result (λ n. self.new ≡ record (called self.old) { given = slice_set self.old.given n true; taken = self.new.taken }) }
+        ensures only { IfOk result (λ n. self.new
+            ≡ record (called self.old) { given = slice_set self.old.given n true; taken = self.new.taken }) }
     {
         if count_call(&mut self.calls, &self.fails) {
             return Err(count_fault(&mut self.read_faults));
@@ -238,7 +256,8 @@ impl Host for MemHost {
         requires some { 0 < length into.old }
         requires open { IsGiven self.old file }
         ensures count { IfOk result (λ k. k ≤ length into.old) }
-        ensures bytes { IfOk result (λ k. Pulls (Some (pairs self.old.files)) (left_in self.old file) (left_in self.new file) k into.old into.new) }
+        ensures bytes { IfOk result (λ k. Pulls (Some (pairs self.old.files)) (left_in self.old file)
+            (left_in self.new file) k into.old into.new) }
         ensures others { (m : ℕ) → ¬ (m ≡ file) → left_in self.new m ≡ left_in self.old m }
         ensures cause { OnErr result (Rose self.old.read_faults self.new.read_faults) }
         ensures files { Some (pairs self.new.files) ≡ Some (pairs self.old.files) }
@@ -250,7 +269,8 @@ impl Host for MemHost {
         // Exactly these calls fail, this many bytes are moved, and this is what else changes.
         ensures fails { IsErr result ↔ IsTrue (is_to_fail self.old) }
         ensures failed { OnErr result (self.new ≡ read_failed self.old) }
-        ensures moved { IfOk result (λ k. k ≡ moved_count (length into.old) (length (left_in self.old file)) self.old.bite) }
+        ensures moved { IfOk result (λ k. k ≡ moved_count (length into.old)
+            (length (left_in self.old file)) self.old.bite) }
         ensures only { OnOk result (self.new ≡ record (called self.old) { taken = self.new.taken }) }
     {
         if count_call(&mut self.calls, &self.fails) {
@@ -266,7 +286,8 @@ impl Host for MemHost {
     fn push(&mut self, port: Port, bytes: &[u8]) -> Result<usize, HostFailed>
         requires { 0 < length bytes.now }
         ensures count { IfOk result (λ k. (0 < k) × (k ≤ length bytes.now)) }
-        ensures bytes { IfOk result (λ k. Appends (Some (text_on self.old port)) (take k bytes.now) (Some (text_on self.new port))) }
+        ensures bytes { IfOk result (λ k. Appends (Some (text_on self.old port)) (take k bytes.now)
+            (Some (text_on self.new port))) }
         ensures unchanged { OnErr result (Some (text_on self.new port) ≡ Some (text_on self.old port)) }
         ensures cause { OnErr result (Rose self.old.write_faults self.new.write_faults) }
         ensures others { (p : Port) → ¬ (p ≡ port) → Some (text_on self.new p) ≡ Some (text_on self.old p) }
@@ -277,10 +298,13 @@ impl Host for MemHost {
         ensures reads { self.old.read_faults ≤ self.new.read_faults }
         ensures writes { self.old.write_faults ≤ self.new.write_faults }
         // Exactly these calls fail, this many bytes are moved, and this is what else changes.
-        ensures fails { IsErr result ↔ (IsTrue (is_to_fail self.old) ⊎ (self.old.room ≤ length (text_on self.old port))) }
+        ensures fails { IsErr result ↔ (IsTrue (is_to_fail self.old)
+            ⊎ (self.old.room ≤ length (text_on self.old port))) }
         ensures failed { OnErr result (self.new ≡ write_failed self.old) }
-        ensures moved { IfOk result (λ k. k ≡ moved_count (length bytes.now) (self.old.room - length (text_on self.old port)) self.old.bite) }
-        ensures only { OnOk result (self.new ≡ record (called self.old) { main = self.new.main; notes = self.new.notes }) }
+        ensures moved { IfOk result (λ k. k ≡ moved_count (length bytes.now)
+            (self.old.room - length (text_on self.old port)) self.old.bite) }
+        ensures only { OnOk result (self.new
+            ≡ record (called self.old) { main = self.new.main; notes = self.new.notes }) }
     {
         if count_call(&mut self.calls, &self.fails) {
             return Err(count_fault(&mut self.write_faults));

@@ -1,7 +1,7 @@
 -- Computed examples of the definitions.
-use Rattle.std.proofs.Common.{◌≡◌, ℕ, List, true, false, cond, codes, length, refl}
+use Rattle.std.proofs.Common.{◌≡◌, true, false, cond, codes, length, refl}
 use Rattle.core_words.specs.Names.{same_name}
-use Rattle.core_ports.specs.Ports.{name_of, all_ports, is_input, width_of, ib_cmd_addr, ev_rd, db_cmd_mask, irq_timer}
+use Rattle.core_ports.specs.Ports.{name_of, all_ports, is_input, width_of, ib_cmd_addr, ev_rd, db_cmd_mask}
 use Rattle.core_ports.specs.Trace.{Trace, has_event, lines_at}
 
 thirty : length all_ports ≡ 30

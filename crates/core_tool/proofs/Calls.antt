@@ -7,12 +7,8 @@ use Rattle.core_tool.specs.declared.config.ConfigRefusal.{ConfigRefusal}
 use Rattle.core_tool.specs.declared.config.ConfigError.TheVariants.{Refused as RefusedError}
 use Rattle.core_tool.specs.Config.{config_of}
 use Rattle.core_tool.specs.Words.{Form, Gen}
-use Rattle.core_tool.specs.Call.{Gives, IsFile, IsRefusedAs, IsTextFor, Pulled}
+use Rattle.core_tool.specs.Call.{Gives, IsFile, IsRefusedAs, Pulled}
 use Rattle.core_tool.proofs.Configs.{IsAnswer, answer_ok, answer_refused, config_of-long, config_of-reset_pc}
-
--- what the fixed core's text is for a reset pc
-pub core_text-IsTextFor : (reset_pc : ℕ) → IsTextFor reset_pc (core_text reset_pc)
-core_text-IsTextFor reset_pc = refl
 
 -- what was read up to one byte past the limit tells as much as the file
 pub whole_file : (name : List ℕ) (files : Option Files) (read : List ℕ) → IsRead 1048576 name files read

@@ -1,7 +1,7 @@
 -- How a call ends: the ends with their causes, and what each leaves on the ports and of the files.
 use Rattle.std.specs.Prelude.{◌≡◌, ◌⊎◌, ◌++◌, ◌<◌, ◌%◌, ◌^◌, ℕ, List, [], Option, Some, None, Ok, Err, codes}
 use Rattle.core_host.specs.Outside.{Files, Rose, Appends, IsCut, IsMissing, SameButOne, PulledAtMost, held}
-use Rattle.fixed_core.specs.Text.{core_text}
+use Rattle.fixed_core.specs.Text.{IsFixedCoreText}
 use Rattle.core_tool.specs.declared.status.Status.{Status}
 use Rattle.core_tool.specs.declared.status.Status.TheVariants.{Done, Usage, ConfigRefused, RulesRefused, ImageRefused, ReadFault, WriteFault, NoMemory, CyclesEnded, ModuleRefused, Stopped}
 use Rattle.core_tool.specs.declared.config.Want.{Want}
@@ -13,10 +13,6 @@ use Rattle.core_tool.specs.declared.ends.CallEnd.{CallEnd}
 use Rattle.core_tool.specs.declared.ends.CallEnd.TheVariants.{Written, BadWords, Refused, BadFile, OutOfMemory, Unwritten}
 use Rattle.core_tool.specs.Config.{config_of}
 use Rattle.core_tool.specs.Words.{Form, Gen}
-
--- what a text that is written for a reset pc is to be
-abbrev pub IsTextFor : (reset_pc : ℕ) → List ℕ → Type 0
-IsTextFor reset_pc text = text ≡ core_text reset_pc
 
 -- the status of a call that ends so, where its line is written
 abbrev pub status_of : CallEnd → Status
@@ -100,10 +96,10 @@ IsCause form files before now reset_pc Unwritten = Gives form files reset_pc
 
 -- a port got a text for that reset pc; it got a proper prefix of one
 abbrev pub GotText : (reset_pc : ℕ) → (old new : Option (List ℕ)) → Type 0
-GotText reset_pc old new = (text : List ℕ) × IsTextFor reset_pc text × Appends old text new
+GotText reset_pc old new = (text : List ℕ) × IsFixedCoreText reset_pc text × Appends old text new
 
 abbrev pub GotCutText : (reset_pc : ℕ) → (old new : Option (List ℕ)) → Type 0
-GotCutText reset_pc old new = (text : List ℕ) × IsTextFor reset_pc text × IsCut old text new
+GotCutText reset_pc old new = (text : List ℕ) × IsFixedCoreText reset_pc text × IsCut old text new
 
 -- what a call that ends so leaves on the main port
 abbrev pub OnMain : (reset_pc : ℕ) → CallEnd → (old new : Option (List ℕ)) → Type 0

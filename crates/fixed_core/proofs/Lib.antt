@@ -1,1 +1,16 @@
+pub mod CoreTree
+pub mod CoreSound
+pub mod Ordered
+pub mod Model
+pub mod Bits
+pub mod Decode
+pub mod Executes
+pub mod Wires
+pub mod Next
+pub mod Run
+pub mod Control
+pub mod Follow
+pub mod CoreRefines
+pub mod RunExample
+pub mod CoreLaw
 pub mod Pushes

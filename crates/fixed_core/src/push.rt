@@ -2,15 +2,19 @@ ghost use Rattle.std.specs.Prelude.{◌≡◌, ◌≤◌, ◌<◌, ◌%◌, ◌/
 ghost use Rattle.core_host.specs.declared.host.Port.{Port};
 ghost use Rattle.core_host.specs.declared.host.Port.TheVariants.{Main};
 ghost use Rattle.core_host.specs.Outside.{Rose, Appends, IsCut};
-ghost use Rattle.verilog_tree.specs.Hex.{hex_digit, hex8};
-ghost use Rattle.fixed_core.specs.Text.{core_text};
+ghost use Rattle.std.specs.Char.{digit_char};
+ghost use Rattle.verilog_tree.specs.Hex.{hex8};
+ghost use Rattle.fixed_core.specs.Text.{core_text, IsFixedCoreText};
 
 use crate::{AFTER_RESET_PC, BEFORE_RESET_PC};
 use core_host::{Host, HostFailed, Port, push_all};
 
-/// Pushes the text of the core with this reset pc on the main port. It takes no memory.
+/// Pushes the text of the core with this reset pc on the main port. That text is a core's: it has one tree, which is
+/// sound and refines the machine with the fixed set. It takes no memory.
+#[tactic(auto, using(crate::proofs::CoreLaw::core_text_is_fixed))]
 pub fn push_core<H: Host>(host: &mut H, reset_pc: u32) -> Result<(), HostFailed>
     requires aligned { reset_pc % 4 ≡ 0 }
+    ensures core { IsFixedCoreText reset_pc (core_text reset_pc) }
     ensures whole { OnOk result (Appends (H.pushed host.old Main) (core_text reset_pc) (H.pushed host.new Main)) }
     ensures part { OnErr result (IsCut (H.pushed host.old Main) (core_text reset_pc) (H.pushed host.new Main)) }
     ensures cause { OnErr result (Rose (H.write_faults host.old) (H.write_faults host.new)) }
@@ -46,7 +50,7 @@ fn hex_digits(number: u32) -> [u8; 8]
 /// The byte of a digit: 0 to 9, and a to f.
 fn digit_byte(digit: u32) -> u8
     requires { digit < 16 }
-    ensures { result ≡ hex_digit digit }
+    ensures { result ≡ digit_char digit }
 {
     if digit < 10 {
         b'0' + digit as u8

@@ -50,13 +50,31 @@ is_read_only number = eqb (bits_of number 11 10) 3
 -- a write of a register that is there and is not read-only; misa and mip keep what they hold
 abbrev pub csr_write : Csrs → (number value : ℕ) → Csrs
 csr_write c number value =
-    elim (eqb number 0x300) [ true ↦ record c { mie_bit = bits_of value 3 3; mpie_bit = bits_of value 7 7 } | false ↦
-    elim (eqb number 0x304) [ true ↦ record c { mie = bit_and value interrupt_bits } | false ↦
-    elim (eqb number 0x305) [ true ↦ record c { mtvec = value / 4 * 4 } | false ↦
-    elim (eqb number 0x340) [ true ↦ record c { mscratch = value } | false ↦
-    elim (eqb number 0x341) [ true ↦ record c { mepc = value / 4 * 4 } | false ↦
-    elim (eqb number 0x342) [ true ↦ record c { mcause = value } | false ↦
-    elim (eqb number 0x343) [ true ↦ record c { mtval = value } | false ↦ c ] ] ] ] ] ] ]
+    elim (eqb number 0x300) [
+      | true ↦ record c { mie_bit = bits_of value 3 3; mpie_bit = bits_of value 7 7 }
+      | false ↦
+          elim (eqb number 0x304) [
+            | true ↦ record c { mie = bit_and value interrupt_bits }
+            | false ↦
+                elim (eqb number 0x305) [
+                  | true ↦ record c { mtvec = value / 4 * 4 }
+                  | false ↦
+                      elim (eqb number 0x340) [
+                        | true ↦ record c { mscratch = value }
+                        | false ↦
+                            elim (eqb number 0x341) [
+                              | true ↦ record c { mepc = value / 4 * 4 }
+                              | false ↦
+                                  elim (eqb number 0x342) [
+                                    | true ↦ record c { mcause = value }
+                                    | false ↦
+                                        elim (eqb number 0x343) [ true ↦ record c { mtval = value } | false ↦ c ]
+                                  ]
+                            ]
+                      ]
+                ]
+          ]
+    ]
 
 -- a trap or an interrupt enters the handler, whose pc is mtvec (3.1.6.1, 3.1.15 to 3.1.17)
 abbrev pub trap_entry : Csrs → (pc cause tval : ℕ) → Csrs
@@ -77,7 +95,16 @@ wakes c lines = not (eqb (raised c lines) 0)
 -- the cause of the interrupt to take, where MIE is 1: external first, then software, then timer (3.1.9)
 abbrev pub pending : Csrs → (lines : ℕ) → Option ℕ
 pending c lines =
-    elim (eqb c.mie_bit 1) [ false ↦ None | true ↦
-    elim (eqb (bits_of (raised c lines) 11 11) 1) [ true ↦ Some 0x8000000b | false ↦
-    elim (eqb (bits_of (raised c lines) 3 3) 1) [ true ↦ Some 0x80000003 | false ↦
-    elim (eqb (bits_of (raised c lines) 7 7) 1) [ true ↦ Some 0x80000007 | false ↦ None ] ] ] ]
+    elim (eqb c.mie_bit 1) [
+      | false ↦ None
+      | true ↦
+          elim (eqb (bits_of (raised c lines) 11 11) 1) [
+            | true ↦ Some 0x8000000b
+            | false ↦
+                elim (eqb (bits_of (raised c lines) 3 3) 1) [
+                  | true ↦ Some 0x80000003
+                  | false ↦
+                      elim (eqb (bits_of (raised c lines) 7 7) 1) [ true ↦ Some 0x80000007 | false ↦ None ]
+                ]
+          ]
+    ]

@@ -1,8 +1,9 @@
 -- The state of the machine, its events, and the configured set of instructions.
-use Rattle.std.specs.Prelude.{ℕ, ◌+◌, Bool, true, false, eqb, List, ◌&&◌, ◌||◌, get_or, set, Option, Some, None}
+use Rattle.std.specs.Prelude.{◌≡◌, ℕ, ◌+◌, Bool, true, false, eqb, List, ◌&&◌, ◌||◌, get_or}
 use Rattle.core_ports.specs.Trace.{PortEvent}
-use Rattle.bus_law.specs.Memory.{Memory, Store}
+use Rattle.bus_law.specs.Memory.{Memory}
 use Rattle.isa_csr.specs.Csrs.{Csrs, reset_csrs}
+use Rattle.isa_table.specs.Rows.{table, is_in_table}
 
 -- the configured set: the numbers of the rows that are claimed, and whether CSRs and traps are there
 pub record Set : Type 0 where
@@ -13,6 +14,10 @@ pub record Set : Type 0 where
 abbrev pub has_row : Set → (number : ℕ) → Bool
 has_row s number = s.claims number || (eqb number 38 || eqb number 39)
 
+-- a set claims only rows that the table has
+abbrev pub IsBuilt : Set → Type 0
+IsBuilt s = (number : ℕ) → s.claims number ≡ true → is_in_table table number ≡ true
+
 -- the multiply and divide instructions, rows 41 to 48, are all claimed
 abbrev pub has_mul_div : Set → Bool
 has_mul_div s = s.claims 41 && (s.claims 42 && (s.claims 43 && (s.claims 44 && (s.claims 45 && (s.claims 46 && (s.claims 47 && s.claims 48))))))
@@ -21,7 +26,8 @@ has_mul_div s = s.claims 41 && (s.claims 42 && (s.claims 43 && (s.claims 44 && (
 abbrev pub misa_of : Set → ℕ
 misa_of s = 0x40000100 + (elim (has_mul_div s) [ true ↦ 0x1000 | false ↦ 0 ])
 
--- 32 registers of 32 bits, a pc that is a multiple of 4, the CSRs, memory, and whether a trap has stopped the machine
+-- registers, pc, CSRs, memory, and whether a trap has stopped the machine. In a run from `machine_from` there are
+-- 32 registers of 32 bits and the pc is a multiple of 4, where they are so at its start.
 pub record Machine : Type 0 where
   pub regs : List ℕ
   pub pc : ℕ

@@ -1,5 +1,5 @@
 -- Runs of the machine.
-use Rattle.std.specs.Prelude.{◌≡◌, ℕ, ◌<◌, ◌≤◌, Bool, true, false, eqb, List, [], ◌∷◌, ◌++◌, ◌⊎◌, Option, Some, None, bit_and, option_to_list}
+use Rattle.std.specs.Prelude.{◌≡◌, ℕ, ◌<◌, ◌≤◌, Bool, true, false, eqb, List, [], ◌∷◌, ◌++◌, ◌⊎◌, Some, None, bit_and, option_to_list}
 use Rattle.bus_law.specs.Memory.{Memory, Store, word_at}
 use Rattle.isa_csr.specs.Csrs.{Csrs, pending}
 use Rattle.isa_model.specs.Machine.{Set, Machine, Fetched, Event, is_interrupt}

@@ -2,7 +2,7 @@
 use Rattle.std.specs.Prelude.{◌≡◌, ℕ, Bool, true, false, eqb, List, ◌⊎◌, set, Option, Some, None}
 use Rattle.core_words.specs.Values.{add_of}
 use Rattle.core_words.specs.Fields.{rd_of, rs1_of, rs2_of}
-use Rattle.bus_law.specs.Memory.{Memory, Store, with_store}
+use Rattle.bus_law.specs.Memory.{Store, with_store}
 use Rattle.isa_table.specs.Rows.{Row, Action, row_of}
 use Rattle.isa_table.specs.Rows.Action.{Computes, CallsEnvironment, Breaks}
 use Rattle.isa_csr.specs.Csrs.{Csrs, pending, trap_entry}

@@ -1,6 +1,7 @@
 -- The instruction table (RISC-V Unprivileged ISA 20191213, chapter 24, and 2.4 and 2.8 for what each row does).
--- A row has a number for good, and a word is of the row where `word & mask` is the row's value.
-use Rattle.std.specs.Prelude.{ℕ, Bool, true, false, eqb, List, [], ◌∷◌, ◌&&◌, Option, Some, None, bit_and, bit_or, bit_xor}
+-- A row keeps its number, and a word is of the row where `word & mask` is the row's value. So far the table has
+-- the rows of the fixed core. A set may claim only rows that are here.
+use Rattle.std.specs.Prelude.{ℕ, Bool, true, false, eqb, List, [], ◌∷◌, ◌&&◌, ◌||◌, Option, Some, None, bit_and, bit_or, bit_xor}
 use Rattle.core_words.specs.Values.{add_of, sub_of}
 use Rattle.core_words.specs.Fields.{imm_i, imm_u}
 
@@ -79,6 +80,11 @@ meets word row = eqb (bit_and word row.mask) row.value
 abbrev pub row_among : (is_taken : ℕ → Bool) → List Row → (word : ℕ) → Option Row
 row_among is_taken [] word = None
 row_among is_taken (row ∷ rows) word = elim (is_taken row.number && meets word row) [ true ↦ Some row | false ↦ row_among is_taken rows word ]
+
+-- the table has a row of this number
+abbrev pub is_in_table : List Row → (number : ℕ) → Bool
+is_in_table [] number = false
+is_in_table (row ∷ rows) number = eqb row.number number || is_in_table rows number
 
 -- the row of a word in the table; no word is of two
 abbrev pub row_of : (is_taken : ℕ → Bool) → (word : ℕ) → Option Row

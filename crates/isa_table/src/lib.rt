@@ -1,2 +1,11 @@
 //! The instruction table: which words are which instruction, and what each instruction does.
 #![tactic(auto)]
+
+ghost use Rattle.std.specs.Prelude.{◌≡◌, ℕ, ◌<◌, true, length, get_or};
+ghost use Rattle.isa_table.specs.Rows.{lui, table, meets};
+
+/// A law: no word is of two rows of the table, so that its order and what is left out of a set change no row.
+pub fn rows_are_disjoint()
+    ensures { (word i j : ℕ) → i < length table → j < length table
+        → meets word (get_or table i lui) ≡ true → meets word (get_or table j lui) ≡ true → i ≡ j }
+{}

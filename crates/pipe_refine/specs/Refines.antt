@@ -1,4 +1,5 @@
--- A module refines the machine: each of its runs on honest buses follows it.
+-- A module refines the machine: each of its runs on honest buses follows it. Nothing here says that an event ever
+-- comes: a core that shows none, and gives no command, refines. A bound on the gaps is a further claim.
 use Rattle.std.specs.Prelude.{◌≡◌, ℕ, ◌^◌, ◌<◌, List, length, get_or, All}
 use Rattle.core_ports.specs.Trace.{Trace, instruction_bus, data_bus}
 use Rattle.bus_law.specs.Memory.{Memory, IsMemory}

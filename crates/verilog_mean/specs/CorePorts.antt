@@ -1,5 +1,5 @@
 -- A module has the ports of a core: those of the table and no other, in any order.
-use Rattle.std.specs.Prelude.{◌≡◌, ℕ, Bool, true, false, not, eqb, List, [], ◌∷◌, ◌&&◌, ◌||◌, length}
+use Rattle.std.specs.Prelude.{◌≡◌, Bool, true, false, not, eqb, List, [], ◌∷◌, ◌&&◌, ◌||◌, length}
 use Rattle.core_words.specs.Names.{same_name}
 use Rattle.core_ports.specs.Ports.{CorePort, all_ports, name_of, is_input, width_of}
 use Rattle.verilog_mean.specs.Plain.{Port, Plain}

@@ -1,6 +1,6 @@
 -- The meaning of one cycle of a module. A wire's value is its driver's, and drivers are followed by name.
 -- The standard's events order nothing here: a module without loops has one value for each name in each cycle.
-use Rattle.std.specs.Prelude.{ℕ, zero, suc, ◌+◌, ◌-◌, Bool, true, false, cond, eqb, ltb, List, get_or, set, length, Option, Some, None, codes, bit_and, bit_or, bit_xor}
+use Rattle.std.specs.Prelude.{ℕ, zero, suc, ◌+◌, ◌-◌, cond, eqb, ltb, List, get_or, set, length, Option, Some, None, codes, bit_and, bit_or, bit_xor}
 use Rattle.core_words.specs.Values.{one_if, add_of, sub_of, not_of, bits_of, choose, join_of}
 use Rattle.verilog_tree.specs.declared.expr.BinSign.{BinSign}
 use Rattle.verilog_tree.specs.declared.expr.BinSign.TheVariants as sign

@@ -7,7 +7,7 @@ use Rattle.verilog_tree.specs.declared.tree.PortDecl.{PortDecl}
 use Rattle.verilog_tree.specs.declared.tree.Item as tree_item
 use Rattle.verilog_tree.specs.declared.tree.Item.TheVariants as item
 use Rattle.verilog_tree.specs.declared.tree.Tree.{Tree}
-use Rattle.verilog_mean.specs.Look.{look, or_else, put}
+use Rattle.verilog_mean.specs.Look.{look, put}
 use Rattle.verilog_mean.specs.Erase.{range_width}
 
 -- a wire is `inline` where its declaration has its driver

@@ -7,7 +7,6 @@ use Rattle.verilog_tree.specs.declared.tree.Stmt.TheVariants as stmt
 use Rattle.verilog_tree.specs.declared.tree.Item as tree_item
 use Rattle.verilog_tree.specs.declared.tree.Item.TheVariants as item
 use Rattle.verilog_tree.specs.declared.tree.Tree.{Tree}
-use Rattle.verilog_mean.specs.declared.MeanRefusal.{MeanRefusal}
 use Rattle.verilog_mean.specs.declared.MeanRefusal.TheVariants.{DriverTwice, DriverMissing}
 use Rattle.verilog_mean.specs.Look.{put, put_if}
 use Rattle.verilog_mean.specs.Declarations.{Class, Declaration, declarations}

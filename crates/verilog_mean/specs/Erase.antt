@@ -1,7 +1,6 @@
 -- From a tree of a text to the module as the meaning sees it.
 use Rattle.std.specs.Prelude.{ℕ, ◌+◌, Bool, true, false, List, [], ◌∷◌, Option, Some, None}
 use Rattle.verilog_tree.specs.declared.expr.Pair.{Pair}
-use Rattle.verilog_tree.specs.declared.expr.Ident.{Ident}
 use Rattle.verilog_tree.specs.declared.expr.Expr as tree
 use Rattle.verilog_tree.specs.declared.expr.Expr.{Cell', Paren', Not', Join', Binary', Choice', Row_of-Expr, end_of-Expr, more_of-Expr}
 use Rattle.verilog_tree.specs.declared.tree.Driver.{Driver}

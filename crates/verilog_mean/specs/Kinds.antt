@@ -2,10 +2,9 @@
 -- `clk` stands in no expression. An array has an index, and nothing else has one. Bits are selected from a
 -- name with a range that is no array. An assignment is to an output or to a wire without a driver of its own.
 -- A value at the clock is given to a register, a write to an array, and a reset names one register twice.
-use Rattle.std.specs.Prelude.{ℕ, Bool, true, false, not, List, [], ◌∷◌, ◌++◌, ◌&&◌, ◌||◌, Option, Some, None, codes, is_some}
+use Rattle.std.specs.Prelude.{Bool, true, false, not, List, [], ◌∷◌, ◌++◌, ◌&&◌, Option, Some, None, codes, is_some}
 use Rattle.core_words.specs.Names.{same_name}
 use Rattle.verilog_tree.specs.declared.expr.Ident.{Ident}
-use Rattle.verilog_tree.specs.declared.expr.Pair.{Pair}
 use Rattle.verilog_tree.specs.declared.expr.Expr as tree
 use Rattle.verilog_tree.specs.declared.expr.Expr.{Cell', Paren', Not', Join', Binary', Choice', Row_of-Expr, end_of-Expr, more_of-Expr}
 use Rattle.verilog_tree.specs.declared.tree.Driver.{Driver}
@@ -14,7 +13,6 @@ use Rattle.verilog_tree.specs.declared.tree.Stmt.TheVariants as stmt
 use Rattle.verilog_tree.specs.declared.tree.Item as tree_item
 use Rattle.verilog_tree.specs.declared.tree.Item.TheVariants as item
 use Rattle.verilog_tree.specs.declared.tree.Tree.{Tree}
-use Rattle.verilog_mean.specs.declared.MeanRefusal.{MeanRefusal}
 use Rattle.verilog_mean.specs.declared.MeanRefusal.TheVariants.{KindDiffers}
 use Rattle.verilog_mean.specs.Look.{put_if}
 use Rattle.verilog_mean.specs.Declarations.{Class, Declaration, declarations, declaration_of}

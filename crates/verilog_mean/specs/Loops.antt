@@ -1,9 +1,10 @@
 -- Ninth rule: no wire depends on itself. A wire depends on the names in its driver, those in an index too,
 -- and on what they depend on. Registers and arrays are not followed.
-use Rattle.std.specs.Prelude.{◌≡◌, ℕ, List, ◌⊎◌}
+use Rattle.std.specs.Prelude.{◌≡◌, ℕ, List, [], ◌∷◌, ◌⊎◌}
 use Rattle.verilog_mean.specs.Plain.{Expr, Exprs, Plain}
 use Rattle.verilog_mean.specs.Plain.Expr.{Literal, Named, Select, Cell, Not, Join, Binary, Choice}
 use Rattle.verilog_mean.specs.Plain.Exprs.{NoPart, Part}
+use Rattle.verilog_mean.specs.Declarations.{Declaration}
 use Rattle.verilog_mean.specs.Cycle.{source_of}
 use Rattle.verilog_mean.specs.Cycle.Source.{Driven}
 
@@ -30,3 +31,12 @@ pub data Depends (m : Plain) : List ℕ → List ℕ → Type 0 where
 
 abbrev pub HasNoLoop : Plain → Type 0
 HasNoLoop m = (x : List ℕ) → Depends m x x → ⊥
+
+-- a declared name depends on itself
+abbrev pub LeadsBack : Plain → Declaration → Type 0
+LeadsBack m d = Depends m d.name.text d.name.text
+
+-- the place of the first declaration whose name does
+abbrev pub FirstLoop : Plain → List Declaration → (at : ℕ) → Type 0
+FirstLoop m [] at = ⊥
+FirstLoop m (d ∷ ds) at = (LeadsBack m d × (at ≡ d.name.at)) ⊎ ((LeadsBack m d → ⊥) × FirstLoop m ds at)

@@ -1,5 +1,6 @@
--- Names are declared once, and before they are used (IEEE 1364-2005, 3.7, 4.3, 12.1).
-use Rattle.std.specs.Prelude.{ℕ, ◌+◌, Bool, true, false, not, eqb, leb, List, [], ◌∷◌, ◌++◌, ◌&&◌, ◌||◌, Option, Some, None, codes}
+-- Names are declared once, and before they are used (IEEE 1364-2005, 3.7, 4.3, 4.5, 4.11;
+-- the standard also has wires without a declaration, which this subset has not).
+use Rattle.std.specs.Prelude.{ℕ, Bool, false, not, eqb, leb, List, [], ◌∷◌, ◌++◌, ◌&&◌, ◌||◌, Option, Some, None, codes}
 use Rattle.core_words.specs.Names.{same_name}
 use Rattle.verilog_tree.specs.declared.expr.Ident.{Ident}
 use Rattle.verilog_tree.specs.declared.expr.Pair.{Pair}
@@ -14,7 +15,7 @@ use Rattle.verilog_tree.specs.declared.tree.Item.TheVariants as item
 use Rattle.verilog_tree.specs.declared.tree.Tree.{Tree}
 use Rattle.verilog_mean.specs.declared.MeanRefusal.{MeanRefusal}
 use Rattle.verilog_mean.specs.declared.MeanRefusal.TheVariants.{NameTwice, BadSize, NameUnknown}
-use Rattle.verilog_mean.specs.Look.{put, put_if}
+use Rattle.verilog_mean.specs.Look.{put_if}
 use Rattle.verilog_mean.specs.Erase.{range_width}
 use Rattle.verilog_mean.specs.Declarations.{Class, Declaration, declarations, item_declaration, index_width}
 use Rattle.verilog_mean.specs.Declarations.Class.{Input, Output, Wired, Register, Array}

@@ -1,4 +1,5 @@
--- A sound tree: none of the nine rules refuses it. The lists of the first eight are in the order of the text.
+-- A sound tree: none of the nine rules refuses it. The lists of the first eight are in the order of the text; the
+-- first place of the ninth is `FirstLoop`.
 use Rattle.std.specs.Prelude.{◌≡◌, []}
 use Rattle.verilog_tree.specs.declared.tree.Tree.{Tree}
 use Rattle.verilog_mean.specs.Erase.{plain_tree}

@@ -2,7 +2,7 @@
 -- Sixth rule: widths agree, so that nothing is cut or extended (5.4.1). The operands of an operator, the two
 -- sides of `=` and `<=` and the two values of a choice have equal widths, a condition has one bit, an index
 -- as many as the array needs, and a join at most 64.
-use Rattle.std.specs.Prelude.{ℕ, Bool, true, false, not, eqb, leb, ltb, List, [], ◌∷◌, ◌++◌, ◌&&◌, Option, Some, None}
+use Rattle.std.specs.Prelude.{ℕ, not, eqb, leb, ltb, List, [], ◌∷◌, ◌++◌, ◌&&◌, Option, Some, None}
 use Rattle.verilog_tree.specs.declared.expr.Ident.{Ident}
 use Rattle.verilog_tree.specs.declared.expr.Pair.{Pair}
 use Rattle.verilog_tree.specs.declared.expr.Expr as tree
@@ -13,7 +13,6 @@ use Rattle.verilog_tree.specs.declared.tree.Stmt.TheVariants as stmt
 use Rattle.verilog_tree.specs.declared.tree.Item as tree_item
 use Rattle.verilog_tree.specs.declared.tree.Item.TheVariants as item
 use Rattle.verilog_tree.specs.declared.tree.Tree.{Tree}
-use Rattle.verilog_mean.specs.declared.MeanRefusal.{MeanRefusal}
 use Rattle.verilog_mean.specs.declared.MeanRefusal.TheVariants.{SelectOutside, WidthDiffers}
 use Rattle.verilog_mean.specs.Look.{put_if}
 use Rattle.verilog_mean.specs.Erase.{plain, plain_parts}

@@ -1,18 +1,18 @@
--- What the grammar spells is read, so a text has at most one tree.
-use Rattle.std.proofs.Common.{◌≡◌, ℕ, zero, suc, ◌+◌, ◌-◌, ◌<◌, ◌≤◌, max, Bool, true, false, List, [], ◌∷◌, length, Option, Some, None, Result, Ok, Err, refl, sym, ap, subst, ◌∙◌, arith, leb}
+-- An expression that the tokens spell is read from them. So they spell one at most.
+use Rattle.std.proofs.Common.{◌≡◌, ℕ, zero, suc, ◌+◌, ◌<◌, ◌≤◌, max, false, List, [], ◌∷◌, length, Ok, refl, sym, ap, subst, ◌∙◌, arith}
 use Rattle.std.proofs.lemmas.Bool.{le-leb, lt-leb}
 use Rattle.verilog_tree.specs.declared.expr.BinSign.{BinSign}
 use Rattle.verilog_tree.specs.declared.expr.BinSign.TheVariants as bin
 use Rattle.verilog_tree.specs.Signs.{Sign}
 use Rattle.verilog_tree.specs.Signs as sign
-use Rattle.verilog_tree.specs.Lexemes.{Lexeme, Word, Number, Sized, Mark, Placed}
+use Rattle.verilog_tree.specs.Lexemes.{Lexeme, Number, Mark, Placed}
 use Rattle.verilog_tree.specs.declared.expr.Ident.{Ident}
 use Rattle.verilog_tree.specs.declared.expr.Expr.{Expr, Literal, Named, Select, Cell', Paren', Not', Join', Binary', Choice', Row_of-Expr, end_of-Expr, more_of-Expr, items-the_row-Expr}
-use Rattle.verilog_tree.specs.declared.expr.Expr.TheVariants.{Cell, Paren, Not, Join, Binary, Choice}
+use Rattle.verilog_tree.specs.declared.expr.Expr.TheVariants.{Binary}
 use Rattle.verilog_tree.specs.Depth.{depth_of, deepest}
-use Rattle.verilog_tree.specs.Grammar.{Spells, SpellsParts, SpellsPair, level, level_of, sign_of, mark, name_token, number_token, literal_token}
-use Rattle.verilog_tree.specs.Readers.{Stop, Wrong, Deep, ◌>>=◌, is_mark, expect}
-use Rattle.verilog_tree.specs.Parse.{Read, Parser, Next, Operator, Question, Nothing, next, operator, selection, cell, indexed, indexed_at, named, Parts, parts_behind, parts, paren, negated, joined, start, start_at, choice, operation, goes_at, goes_on, parse}
+use Rattle.verilog_tree.specs.Grammar.{Spells, SpellsParts, SpellsPair, level, level_of, sign_of, mark}
+use Rattle.verilog_tree.specs.Readers.{◌>>=◌, is_mark}
+use Rattle.verilog_tree.specs.Parse.{Parser, Next, Operator, Question, Nothing, next, selection, cell, indexed, indexed_at, named, parts, paren, negated, joined, start, choice, operation, goes_at, goes_on, parse}
 use mathlib.Core.Former.{this, arity}
 use Rattle.sqlite_items.specs.formers.items.Items.{the_former}
 use Rattle.verilog_tree.proofs.Made.{made_cell, made_paren, made_not, made_binary, made_choice, made_join}
@@ -301,6 +301,6 @@ mutual
   parts_work (more_of-Expr e end_of-Expr) = record { all = λ d k ts rest (close, h) deep long. parts_last d k e (works e) ts rest close h (omega arith) long }
   parts_work (more_of-Expr e (more_of-Expr f more)) = record { all = λ d k ts rest (mid, comma, h, h') deep long. parts_more d k e (works e) (more_of-Expr f more) (parts_work (more_of-Expr f more)) ts rest mid comma h h' deep long }
 
--- an expression is read from its tokens
-pub complete : (e : Expr) (d : ℕ) (ts rest : List Placed) → Spells e ts rest → depth_of e ≤ d → Ends 0 rest → parse d 0 ts ≡ Ok (e, rest)
-complete e d ts rest h deep f = (works e).whole.all d 0 ts rest h (omega arith) deep f
+-- What is spelled is read, where the depth allows it and what follows goes on with nothing.
+pub parse-is : (e : Expr) (d : ℕ) (ts rest : List Placed) → Spells e ts rest → depth_of e ≤ d → Ends 0 rest → parse d 0 ts ≡ Ok (e, rest)
+parse-is e d ts rest h deep f = (works e).whole.all d 0 ts rest h (omega arith) deep f

@@ -1,10 +1,15 @@
 pub mod Made
 pub mod Depths
 pub mod ExprIsRead
+pub mod StepsAreSpelled
 pub mod ExprIsSpelled
 pub mod OneList
 pub mod ModuleIsRead
+pub mod ItemsAreSpelled
 pub mod ModuleIsSpelled
 pub mod Scans
 pub mod TokenList
+pub mod LiteralToken
+pub mod Pieces
 pub mod Readings
+pub mod Examples

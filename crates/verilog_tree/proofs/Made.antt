@@ -1,8 +1,8 @@
 -- An expression made in code is the form that definitions match on.
-use Rattle.std.proofs.Common.{◌≡◌, ℕ, refl, ap, sym, ◌∙◌, List, [], ◌∷◌}
+use Rattle.std.proofs.Common.{◌≡◌, ℕ, refl, ap, sym, ◌∙◌}
 use Rattle.verilog_tree.specs.declared.expr.BinSign.{BinSign}
 use Rattle.verilog_tree.specs.declared.expr.Ident.{Ident}
-use Rattle.verilog_tree.specs.declared.expr.Expr.{Expr, Cell', Paren', Not', Join', Binary', Choice', Row_of-Expr, end_of-Expr, more_of-Expr, roll-Expr, out-Expr, roll-out-Expr, items-the_row-Expr, items_shown-the_row-Expr-1}
+use Rattle.verilog_tree.specs.declared.expr.Expr.{Expr, Cell', Paren', Not', Join', Binary', Choice', Row_of-Expr, end_of-Expr, more_of-Expr, roll-Expr, roll-out-Expr, items-the_row-Expr, items_shown-the_row-Expr-1}
 use Rattle.verilog_tree.specs.declared.expr.Expr.TheVariants.{Cell, Paren, Not, Join, Binary, Choice, rolls-Join, outs-Join'}
 use Rattle.verilog_tree.specs.declared.expr.Expr.TheBlock.{shape-the_row-Expr-0, hidden-the_row-Expr-0, shown-the_row-Expr-1}
 use denote.Hole.Carrier.{hidden}

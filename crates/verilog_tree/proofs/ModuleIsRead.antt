@@ -1,10 +1,10 @@
--- A text has at most one tree.
-use Rattle.std.proofs.Common.{◌≡◌, ℕ, zero, suc, ◌+◌, ◌<◌, ◌≤◌, Bool, true, false, ◌&&◌, List, [], ◌∷◌, length, Option, Some, None, Result, Ok, Err, refl, sym, ap, subst, ◌∙◌, arith, eqb, ◌⊎◌, inl, inr}
+-- A module that the tokens spell is read from them. So a text has at most one tree.
+use Rattle.std.proofs.Common.{◌≡◌, ℕ, zero, suc, ◌+◌, ◌<◌, ◌≤◌, Bool, true, false, ◌&&◌, List, [], ◌∷◌, length, Option, Some, None, Ok, refl, sym, ap, subst, ◌∙◌, arith, eqb, inl, inr}
 use Rattle.std.specs.Prelude.{codes}
 use Rattle.std.proofs.lemmas.Bool.{eqb-true}
 use Rattle.verilog_tree.specs.Signs.{Sign}
 use Rattle.verilog_tree.specs.Signs as sign
-use Rattle.verilog_tree.specs.Lexemes.{Lexeme, Word, Number, Sized, Mark, Placed}
+use Rattle.verilog_tree.specs.Lexemes.{Word, Placed}
 use Rattle.verilog_tree.specs.declared.expr.Ident.{Ident}
 use Rattle.verilog_tree.specs.declared.expr.Lit.{Lit}
 use Rattle.verilog_tree.specs.declared.expr.Pair.{Pair}
@@ -18,15 +18,13 @@ use Rattle.verilog_tree.specs.declared.tree.Item.{Item}
 use Rattle.verilog_tree.specs.declared.tree.Item.TheVariants.{Wire, Reg, Assign, Always}
 use Rattle.verilog_tree.specs.declared.tree.Tree.{Tree}
 use Rattle.verilog_tree.specs.Bytes.{choose}
-use Rattle.verilog_tree.specs.Lex.{HasTokens}
-use Rattle.verilog_tree.specs.Words.{same_bytes, is_among, grammar_words, unsupported_words, is_reserved}
-use Rattle.verilog_tree.specs.Grammar.{Spells, SpellsPair, mark, name_token, literal_token, IsName}
+use Rattle.verilog_tree.specs.Words.{same_bytes, grammar_words, unsupported_words, is_reserved}
+use Rattle.verilog_tree.specs.Grammar.{SpellsPair, mark, name_token, literal_token, IsName}
 use Rattle.verilog_tree.specs.Module as spec
 use Rattle.verilog_tree.specs.Module.{SpellsExpr, SpellsRange, SpellsWire, SpellsPort, SpellsPorts, SpellsDriver, SpellsDriven, SpellsStmt, SpellsItem, SpellsItems, SpellsModule, direction}
-use Rattle.verilog_tree.specs.Readers.{Stop, Wrong, Deep, ◌>>=◌, expect, number, is_mark, Reader}
-use Rattle.verilog_tree.specs.Parse.{parse}
-use Rattle.verilog_tree.specs.Read.{is_word, keyword, name, by_next, pair, range, expr, driver, driven, optional_wire, port_of, port, ports_behind, ports, wire, reg, assign, next_value, literal, is_reset, reset_behind, write_behind, conditional, stmt, always, item, items, at_end, finished, module_of, read}
-use Rattle.verilog_tree.proofs.ExprIsRead.{Ends, complete, shorter, pair_shorter}
+use Rattle.verilog_tree.specs.Readers.{◌>>=◌, is_mark, Reader}
+use Rattle.verilog_tree.specs.Read.{is_word, name, by_next, pair, range, expr, driver, driven, optional_wire, port_of, port, ports, wire, reg, assign, next_value, is_reset, reset_behind, write_behind, conditional, stmt, always, item, items, module_of, read}
+use Rattle.verilog_tree.proofs.ExprIsRead.{Ends, parse-is, shorter, pair_shorter}
 use Rattle.verilog_tree.proofs.OneList.{one_list}
 
 -- ---- names are no words of the grammar
@@ -66,12 +64,12 @@ reset_free = refl
 
 -- ---- small readers
 
-name_yes : (i : Ident) (ts : List Placed) → IsName i → name (name_token i ∷ ts) ≡ Ok (i, ts)
-name_yes i ts h = rw h refl
+name-is : (i : Ident) (ts : List Placed) → IsName i → name (name_token i ∷ ts) ≡ Ok (i, ts)
+name-is i ts h = rw h refl
 
-pair_yes : (p : Pair) (ts rest : List Placed) → SpellsPair p ts rest → pair ts ≡ Ok (p, rest)
+pair-is : (p : Pair) (ts rest : List Placed) → SpellsPair p ts rest → pair ts ≡ Ok (p, rest)
 unfolding pair
-pair_yes p ts rest (colon, close, h) = rw h refl
+pair-is p ts rest (colon, close, h) = rw h refl
 
 -- the next token is no "["
 abbrev Plain : List Placed → Type 0
@@ -83,27 +81,27 @@ unfolding range
 no_range [] h = refl
 no_range (t ∷ ts) h = rw h refl
 
-range_yes : (o : Option Pair) (ts rest : List Placed) → SpellsRange o ts rest → Plain rest → range ts ≡ Ok (o, rest)
+range-is : (o : Option Pair) (ts rest : List Placed) → SpellsRange o ts rest → Plain rest → range ts ≡ Ok (o, rest)
 unfolding range
-range_yes None ts rest h k = rw h (no_range rest k)
-range_yes (Some p) ts rest (colon, close, h) k = rw (h, pair_yes p _ rest (colon, close, refl)) refl
+range-is None ts rest h k = rw h (no_range rest k)
+range-is (Some p) ts rest (colon, close, h) k = rw (h, pair-is p _ rest (colon, close, refl)) refl
 
-expr_yes : (e : Expr) (ts rest : List Placed) → SpellsExpr e ts rest → Ends 0 rest → expr ts ≡ Ok (e, rest)
+expr-is : (e : Expr) (ts rest : List Placed) → SpellsExpr e ts rest → Ends 0 rest → expr ts ≡ Ok (e, rest)
 unfolding expr
-expr_yes e ts rest h f = complete e 64 ts rest h.0 h.1 f
+expr-is e ts rest h f = parse-is e 64 ts rest h.0 h.1 f
 
-assign_yes : (d : Driver) (ts rest : List Placed) → SpellsDriver sign.Assign d ts rest → driver sign.Assign ts ≡ Ok (d, rest)
+assign-is : (d : Driver) (ts rest : List Placed) → SpellsDriver sign.Assign d ts rest → driver sign.Assign ts ≡ Ok (d, rest)
 unfolding driver
-assign_yes d ts rest (mid, end, h, e) = rw (h, expr_yes d.value mid (mark end sign.Semicolon ∷ rest) e (record { stops = tt; unbracketed = refl })) refl
+assign-is d ts rest (mid, end, h, e) = rw (h, expr-is d.value mid (mark end sign.Semicolon ∷ rest) e (record { stops = tt; unbracketed = refl })) refl
 
-next_yes : (d : Driver) (ts rest : List Placed) → SpellsDriver sign.LessEqual d ts rest → driver sign.LessEqual ts ≡ Ok (d, rest)
+next-is : (d : Driver) (ts rest : List Placed) → SpellsDriver sign.LessEqual d ts rest → driver sign.LessEqual ts ≡ Ok (d, rest)
 unfolding driver
-next_yes d ts rest (mid, end, h, e) = rw (h, expr_yes d.value mid (mark end sign.Semicolon ∷ rest) e (record { stops = tt; unbracketed = refl })) refl
+next-is d ts rest (mid, end, h, e) = rw (h, expr-is d.value mid (mark end sign.Semicolon ∷ rest) e (record { stops = tt; unbracketed = refl })) refl
 
-driven_yes : (o : Option Driver) (ts rest : List Placed) → SpellsDriven o ts rest → driven ts ≡ Ok (o, rest)
+driven-is : (o : Option Driver) (ts rest : List Placed) → SpellsDriven o ts rest → driven ts ≡ Ok (o, rest)
 unfolding driven
-driven_yes None ts rest (end, h) = rw h refl
-driven_yes (Some d) ts rest (mid, end, h, e) = rw (h, assign_yes d _ rest (mid, end, refl, e)) refl
+driven-is None ts rest (end, h) = rw h refl
+driven-is (Some d) ts rest (mid, end, h, e) = rw (h, assign-is d _ rest (mid, end, refl, e)) refl
 
 driven_plain : (o : Option Driver) (ts rest : List Placed) → SpellsDriven o ts rest → Plain ts
 driven_plain None ts rest (end, h) = rw h refl
@@ -119,76 +117,76 @@ unfolding optional_wire
 no_wire None ts rest i f h = rw (h, name_not i (codes "wire") f wire_reserved) refl
 no_wire (Some p) ts rest i f (colon, close, h) = rw h refl
 
-wire_yes : (ts mid rest : List Placed) (r : Option Pair) (i : Ident) → IsName i → SpellsRange r mid (name_token i ∷ rest) → SpellsWire ts mid → optional_wire ts ≡ Ok (tt, mid)
+wire-is : (ts mid rest : List Placed) (r : Option Pair) (i : Ident) → IsName i → SpellsRange r mid (name_token i ∷ rest) → SpellsWire ts mid → optional_wire ts ≡ Ok (tt, mid)
 unfolding optional_wire
-wire_yes ts mid rest r i f h (inl e) = rw e (no_wire r mid rest i f h)
-wire_yes ts mid rest r i f h (inr (at, e)) = rw e refl
+wire-is ts mid rest r i f h (inl e) = rw e (no_wire r mid rest i f h)
+wire-is ts mid rest r i f h (inr (at, e)) = rw e refl
 
-port_yes : (p : PortDecl) (ts rest : List Placed) → SpellsPort p ts rest → port ts ≡ Ok (p, rest)
+port-is : (p : PortDecl) (ts rest : List Placed) → SpellsPort p ts rest → port ts ≡ Ok (p, rest)
 unfolding port port_of
-port_yes p ts rest (a, b, h, w, r, f) = of_direction p.input refl
+port-is p ts rest (a, b, h, w, r, f) = of_direction p.input refl
   where
     of_direction : (input : Bool) → p.input ≡ input → port ts ≡ Ok (p, rest)
     of_direction true e = let begin : ts ≡ spec.keyword p.at (codes "input") ∷ a = h ∙ ap (λ (d : Bool). spec.keyword p.at (direction d) ∷ a) e in
-        rw (begin, wire_yes a b rest p.range p.name f r w, range_yes p.range b (name_token p.name ∷ rest) r refl, f) (λ i. Ok (record { at = p.at; input = sym e i; range = p.range; name = p.name }, rest))
+        rw (begin, wire-is a b rest p.range p.name f r w, range-is p.range b (name_token p.name ∷ rest) r refl, f) (λ i. Ok (record { at = p.at; input = sym e i; range = p.range; name = p.name }, rest))
     of_direction false e = let begin : ts ≡ spec.keyword p.at (codes "output") ∷ a = h ∙ ap (λ (d : Bool). spec.keyword p.at (direction d) ∷ a) e in
-        rw (begin, wire_yes a b rest p.range p.name f r w, range_yes p.range b (name_token p.name ∷ rest) r refl, f) (λ i. Ok (record { at = p.at; input = sym e i; range = p.range; name = p.name }, rest))
+        rw (begin, wire-is a b rest p.range p.name f r w, range-is p.range b (name_token p.name ∷ rest) r refl, f) (λ i. Ok (record { at = p.at; input = sym e i; range = p.range; name = p.name }, rest))
 
-ports_yes : (ps : List PortDecl) (n : ℕ) (ts rest : List Placed) → SpellsPorts ps ts rest → length ps ≤ n → ports n ts ≡ Ok (ps, rest)
+ports-is : (ps : List PortDecl) (n : ℕ) (ts rest : List Placed) → SpellsPorts ps ts rest → length ps ≤ n → ports n ts ≡ Ok (ps, rest)
 unfolding ports
-ports_yes [] n ts rest h l = elim h [ ]
-ports_yes (p ∷ ps) zero ts rest h l = absurd (omega arith)
-ports_yes (p ∷ []) (suc n) ts rest (close, h) l = rw (port_yes p ts (mark close sign.Close ∷ rest) h) refl
-ports_yes (p ∷ q ∷ ps) (suc n) ts rest (mid, comma, h, more) l = rw (port_yes p ts (mark comma sign.Comma ∷ mid) h, ports_yes (q ∷ ps) n mid rest more (omega arith)) refl
+ports-is [] n ts rest h l = elim h [ ]
+ports-is (p ∷ ps) zero ts rest h l = absurd (omega arith)
+ports-is (p ∷ []) (suc n) ts rest (close, h) l = rw (port-is p ts (mark close sign.Close ∷ rest) h) refl
+ports-is (p ∷ q ∷ ps) (suc n) ts rest (mid, comma, h, more) l = rw (port-is p ts (mark comma sign.Comma ∷ mid) h, ports-is (q ∷ ps) n mid rest more (omega arith)) refl
 
 -- ---- statements
 
-next_stmt_yes : (target : Ident) (d : Driver) (ts rest : List Placed) → SpellsStmt (Next target d) ts rest → stmt ts ≡ Ok (Next target d, rest)
+next_stmt-is : (target : Ident) (d : Driver) (ts rest : List Placed) → SpellsStmt (Next target d) ts rest → stmt ts ≡ Ok (Next target d, rest)
 unfolding stmt next_value
-next_stmt_yes target d ts rest (mid, f, h, k) = rw (h, name_not target (codes "if") f if_reserved, f, next_yes d mid rest k) refl
+next_stmt-is target d ts rest (mid, f, h, k) = rw (h, name_not target (codes "if") f if_reserved, f, next-is d mid rest k) refl
 
 -- where ")" follows
-closed_yes : (e : Expr) (ts rest : List Placed) (at : ℕ) → SpellsExpr e ts (mark at sign.Close ∷ rest) → expr ts ≡ Ok (e, mark at sign.Close ∷ rest)
-closed_yes e ts rest at h = expr_yes e ts (mark at sign.Close ∷ rest) h (record { stops = tt; unbracketed = refl })
+closed-is : (e : Expr) (ts rest : List Placed) (at : ℕ) → SpellsExpr e ts (mark at sign.Close ∷ rest) → expr ts ≡ Ok (e, mark at sign.Close ∷ rest)
+closed-is e ts rest at h = expr-is e ts (mark at sign.Close ∷ rest) h (record { stops = tt; unbracketed = refl })
 
-bracketed_yes : (e : Expr) (ts rest : List Placed) (at : ℕ) → SpellsExpr e ts (mark at sign.CloseBracket ∷ rest) → expr ts ≡ Ok (e, mark at sign.CloseBracket ∷ rest)
-bracketed_yes e ts rest at h = expr_yes e ts (mark at sign.CloseBracket ∷ rest) h (record { stops = tt; unbracketed = refl })
+bracketed-is : (e : Expr) (ts rest : List Placed) (at : ℕ) → SpellsExpr e ts (mark at sign.CloseBracket ∷ rest) → expr ts ≡ Ok (e, mark at sign.CloseBracket ∷ rest)
+bracketed-is e ts rest at h = expr-is e ts (mark at sign.CloseBracket ∷ rest) h (record { stops = tt; unbracketed = refl })
 
-reset_stmt_yes : (at : ℕ) (first : Ident) (s : ℕ) (start : Lit) (target : Ident) (d : Driver) (ts rest : List Placed) → SpellsStmt (Reset at first s start target d) ts rest → stmt ts ≡ Ok (Reset at first s start target d, rest)
+reset_stmt-is : (at : ℕ) (first : Ident) (s : ℕ) (start : Lit) (target : Ident) (d : Driver) (ts rest : List Placed) → SpellsStmt (Reset at first s start target d) ts rest → stmt ts ≡ Ok (Reset at first s start target d, rest)
 unfolding stmt conditional reset_behind
-reset_stmt_yes at first s start target d ts rest (mid, paren, reset, close, end, other, f, g, h, k) =
+reset_stmt-is at first s start target d ts rest (mid, paren, reset, close, end, other, f, g, h, k) =
     let named : Ident = record { at = reset; text = codes "reset" } in
     let tail : List Placed = name_token first ∷ mark s sign.LessEqual ∷ literal_token start ∷ mark end sign.Semicolon ∷ spec.keyword other (codes "else") ∷ name_token target ∷ mid in
-    let e : expr (name_token named ∷ mark close sign.Close ∷ tail) ≡ Ok (Named named, mark close sign.Close ∷ tail) = closed_yes (Named named) (name_token named ∷ mark close sign.Close ∷ tail) tail close ((reset_free, refl), omega arith) in
-    rw (h, e, f, g, next_yes d mid rest k) refl
+    let e : expr (name_token named ∷ mark close sign.Close ∷ tail) ≡ Ok (Named named, mark close sign.Close ∷ tail) = closed-is (Named named) (name_token named ∷ mark close sign.Close ∷ tail) tail close ((reset_free, refl), omega arith) in
+    rw (h, e, f, g, next-is d mid rest k) refl
 
-write_yes : (at paren : ℕ) (enable : Expr) (target : Ident) (bracket : ℕ) (index : Expr) (d : Driver) (b c rest : List Placed) (close : ℕ) →
+write-is : (at paren : ℕ) (enable : Expr) (target : Ident) (bracket : ℕ) (index : Expr) (d : Driver) (b c rest : List Placed) (close : ℕ) →
     SpellsExpr index b (mark close sign.CloseBracket ∷ c) → SpellsDriver sign.LessEqual d c rest → write_behind at paren enable target (mark bracket sign.OpenBracket ∷ b) ≡ Ok (Write at paren enable target bracket index d, rest)
 unfolding write_behind
-write_yes at paren enable target bracket index d b c rest close h k = rw (bracketed_yes index b c close h, next_yes d c rest k) refl
+write-is at paren enable target bracket index d b c rest close h k = rw (bracketed-is index b c close h, next-is d c rest k) refl
 
-write_stmt_yes : (at paren : ℕ) (enable : Expr) (target : Ident) (bracket : ℕ) (index : Expr) (d : Driver) (ts rest : List Placed) → SpellsStmt (Write at paren enable target bracket index d) ts rest → stmt ts ≡ Ok (Write at paren enable target bracket index d, rest)
+write_stmt-is : (at paren : ℕ) (enable : Expr) (target : Ident) (bracket : ℕ) (index : Expr) (d : Driver) (ts rest : List Placed) → SpellsStmt (Write at paren enable target bracket index d) ts rest → stmt ts ≡ Ok (Write at paren enable target bracket index d, rest)
 unfolding stmt conditional
-write_stmt_yes at paren enable target bracket index d ts rest (a, b, c, close, close', f, h, e, i, k) =
-    rw (h, closed_yes enable a (name_token target ∷ mark bracket sign.OpenBracket ∷ b) close e, f) (either (is_reset enable))
+write_stmt-is at paren enable target bracket index d ts rest (a, b, c, close, close', f, h, e, i, k) =
+    rw (h, closed-is enable a (name_token target ∷ mark bracket sign.OpenBracket ∷ b) close e, f) (either (is_reset enable))
   where
     either : (t : Bool) → choose t (λ _. by_next (is_mark sign.LessEqual) (reset_behind at target) (write_behind at paren enable target) (mark bracket sign.OpenBracket ∷ b)) (λ _. write_behind at paren enable target (mark bracket sign.OpenBracket ∷ b)) ≡ Ok (Write at paren enable target bracket index d, rest)
-    either true = write_yes at paren enable target bracket index d b c rest close' i k
-    either false = write_yes at paren enable target bracket index d b c rest close' i k
+    either true = write-is at paren enable target bracket index d b c rest close' i k
+    either false = write-is at paren enable target bracket index d b c rest close' i k
 
-stmt_yes : (s : Stmt) (ts rest : List Placed) → SpellsStmt s ts rest → stmt ts ≡ Ok (s, rest)
-stmt_yes (Next target d) ts rest h = next_stmt_yes target d ts rest h
-stmt_yes (Reset at first s start target d) ts rest h = reset_stmt_yes at first s start target d ts rest h
-stmt_yes (Write at paren enable target bracket index d) ts rest h = write_stmt_yes at paren enable target bracket index d ts rest h
+stmt-is : (s : Stmt) (ts rest : List Placed) → SpellsStmt s ts rest → stmt ts ≡ Ok (s, rest)
+stmt-is (Next target d) ts rest h = next_stmt-is target d ts rest h
+stmt-is (Reset at first s start target d) ts rest h = reset_stmt-is at first s start target d ts rest h
+stmt-is (Write at paren enable target bracket index d) ts rest h = write_stmt-is at paren enable target bracket index d ts rest h
 
 -- ---- items
 
-item_yes : (i : Item) (ts rest : List Placed) → SpellsItem i ts rest → item ts ≡ Ok (i, rest)
+item-is : (i : Item) (ts rest : List Placed) → SpellsItem i ts rest → item ts ≡ Ok (i, rest)
 unfolding item wire reg assign always
-item_yes (Wire at r i d) ts rest (a, b, f, h, w, k) = rw (h, range_yes r a (name_token i ∷ b) w refl, f, driven_yes d b rest k) refl
-item_yes (Reg at r i cells) ts rest (a, b, end, f, h, w, k) = rw (h, range_yes r a (name_token i ∷ b) w refl, f, range_yes cells b (mark end sign.Semicolon ∷ rest) k refl) refl
-item_yes (Assign at target d) ts rest (mid, f, h, k) = rw (h, f, assign_yes d mid rest k) refl
-item_yes (Always at s) ts rest (mid, sign_at, paren, edge, clock, close, h, k) = rw (h, stmt_yes s mid rest k) refl
+item-is (Wire at r i d) ts rest (a, b, f, h, w, k) = rw (h, range-is r a (name_token i ∷ b) w refl, f, driven-is d b rest k) refl
+item-is (Reg at r i cells) ts rest (a, b, end, f, h, w, k) = rw (h, range-is r a (name_token i ∷ b) w refl, f, range-is cells b (mark end sign.Semicolon ∷ rest) k refl) refl
+item-is (Assign at target d) ts rest (mid, f, h, k) = rw (h, f, assign-is d mid rest k) refl
+item-is (Always at s) ts rest (mid, sign_at, paren, edge, clock, close, h, k) = rw (h, stmt-is s mid rest k) refl
 
 -- an item begins with no "endmodule"
 item_begins : (i : Item) (ts rest : List Placed) (A : Type 0) (f g : Reader A) → SpellsItem i ts rest → by_next (is_word (codes "endmodule")) f g ts ≡ g ts
@@ -197,13 +195,13 @@ item_begins (Reg at r i cells) ts rest A f g (a, b, end, _, h, w, k) = rw h refl
 item_begins (Assign at target d) ts rest A f g (mid, _, h, k) = rw h refl
 item_begins (Always at s) ts rest A f g (mid, sign_at, paren, edge, clock, close, h, k) = rw h refl
 
-items_yes : (is : List Item) (n : ℕ) (ts rest : List Placed) (at : ℕ) → SpellsItems is ts (spec.keyword at (codes "endmodule") ∷ rest) → length is < n → items n ts ≡ Ok (is, spec.keyword at (codes "endmodule") ∷ rest)
+items-is : (is : List Item) (n : ℕ) (ts rest : List Placed) (at : ℕ) → SpellsItems is ts (spec.keyword at (codes "endmodule") ∷ rest) → length is < n → items n ts ≡ Ok (is, spec.keyword at (codes "endmodule") ∷ rest)
 unfolding items
-items_yes is zero ts rest at h l = absurd (omega arith)
-items_yes [] (suc n) ts rest at h l = rw h refl
-items_yes (i ∷ is) (suc n) ts rest at (mid, h, k) l =
+items-is is zero ts rest at h l = absurd (omega arith)
+items-is [] (suc n) ts rest at h l = rw h refl
+items-is (i ∷ is) (suc n) ts rest at (mid, h, k) l =
     item_begins i ts mid (List Item) (λ us. Ok ([], us)) (λ us. item us >>= λ x. items n x.1 >>= λ y. Ok (x.0 ∷ y.0, y.1)) h
-    ∙ rw (item_yes i ts mid h, items_yes is n mid rest at k (omega arith)) refl
+    ∙ rw (item-is i ts mid h, items-is is n mid rest at k (omega arith)) refl
 
 -- ---- no more parts than tokens
 
@@ -250,20 +248,20 @@ items_short (i ∷ is) ts rest (mid, h, k) = omega (arith, item_short i ts mid h
 
 -- ---- the module
 
-pub module_yes : (t : Tree) (n : ℕ) (ts : List Placed) → SpellsModule t ts → length ts ≤ n → module_of n ts ≡ Ok (t, [])
+pub module_of-is : (t : Tree) (n : ℕ) (ts : List Placed) → SpellsModule t ts → length ts ≤ n → module_of n ts ≡ Ok (t, [])
 unfolding module_of
-module_yes t n ts (a, b, paren, semicolon, end, f, h, k, l) fits =
+module_of-is t n ts (a, b, paren, semicolon, end, f, h, k, l) fits =
     let long : length ts ≡ suc (suc (suc (length a))) = ap length h in
     let a-long = ports_short t.ports a (mark semicolon sign.Semicolon ∷ b) k in
     let b-long = items_short t.items b (spec.keyword end (codes "endmodule") ∷ []) l in
-    rw (h, f, ports_yes t.ports n a (mark semicolon sign.Semicolon ∷ b) k (omega arith), items_yes t.items n b [] end l (omega arith)) refl
+    rw (h, f, ports-is t.ports n a (mark semicolon sign.Semicolon ∷ b) k (omega arith), items-is t.items n b [] end l (omega arith)) refl
 
--- what the grammar spells is read
-pub read_yes : (t : Tree) (ts : List Placed) → SpellsModule t ts → read ts ≡ Ok t
-read_yes t ts h = rw (module_yes t (length ts) ts h (omega arith)) refl
+-- What is spelled is read.
+pub read-is : (t : Tree) (ts : List Placed) → SpellsModule t ts → read ts ≡ Ok t
+read-is t ts h = rw (module_of-is t (length ts) ts h (omega arith)) refl
 
 pub one_tree_of_tokens : (t u : Tree) (ts : List Placed) → SpellsModule t ts → SpellsModule u ts → t ≡ u
-one_tree_of_tokens t u ts h k = let a = read_yes t ts h in let b = read_yes u ts k in cc
+one_tree_of_tokens t u ts h k = let a = read-is t ts h in let b = read-is u ts k in cc
 
 -- A text has at most one tree.
 pub one_tree : (bytes : List ℕ) (t u : Tree) → spec.Reads bytes t → spec.Reads bytes u → t ≡ u

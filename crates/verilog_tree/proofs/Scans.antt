@@ -1,12 +1,12 @@
 -- What one token leaves: no more than stood behind its first byte, and the same whatever stands further behind.
-use Rattle.std.proofs.Common.{◌≡◌, ℕ, zero, suc, ◌+◌, ◌<◌, ◌≤◌, Bool, true, false, not, ◌||◌, List, [], ◌∷◌, ◌++◌, length, Option, Some, None, refl, sym, ap, subst, ◌∙◌, arith, eqb}
+use Rattle.std.proofs.Common.{◌≡◌, ℕ, suc, ◌≤◌, Bool, true, false, not, List, [], ◌∷◌, ◌++◌, length, Option, Some, None, refl, ap, subst, arith}
 use Rattle.std.specs.Prelude.{filter, ◌==◌}
 use Rattle.std.specs.Str.Parse.{digits_value}
 use Rattle.verilog_tree.specs.Signs.{Sign}
 use Rattle.verilog_tree.specs.Signs as sign
-use Rattle.verilog_tree.specs.Lexemes.{Lexeme, Word, Number, Sized, Mark}
-use Rattle.verilog_tree.specs.Bytes.{choose, is_digit, is_letter, is_word_byte, front, behind}
-use Rattle.verilog_tree.specs.Lex.{Scan, word_scan, base_of, in_base, in_literal, literal_scan, behind_base, with_base, behind_quote, is_size, number_scan, behind_digits, single_signs, single_sign, unless_next, behind_equals, behind_less, sign_at, token_at}
+use Rattle.verilog_tree.specs.Lexemes.{Lexeme, Mark}
+use Rattle.verilog_tree.specs.Bytes.{choose, is_digit, is_word_byte, front, behind}
+use Rattle.verilog_tree.specs.Lex.{Scan, word_scan, base_of, in_literal, literal_scan, behind_base, with_base, behind_quote, number_scan, behind_digits, single_sign, unless_next, behind_equals, behind_less, sign_at, token_at}
 
 -- ---- how much is left
 

@@ -1,13 +1,11 @@
 -- The tokens of a text as a function and as a relation: the one has what the other says.
-use Rattle.std.proofs.Common.{◌≡◌, ℕ, zero, suc, ◌+◌, ◌-◌, ◌<◌, ◌≤◌, List, [], ◌∷◌, length, Option, Some, None, refl, sym, ap, subst, ◌∙◌, arith}
+use Rattle.std.proofs.Common.{◌≡◌, ℕ, zero, suc, ◌-◌, ◌<◌, ◌≤◌, List, [], ◌∷◌, length, Option, Some, None, refl, ap, subst, arith}
 use Rattle.verilog_tree.specs.Lexemes.{Lexeme, Placed}
 use Rattle.verilog_tree.specs.Blanks.{Mode, Between, Line, Opening, Block, Closing, mode_after, at_end, on_mode, skipped}
 use Rattle.verilog_tree.specs.Lex.{Scan, token_at, HasTokens}
 use Rattle.verilog_tree.specs.TokensOf.{with_token, on_scan, on_text, tokens_of}
+use Rattle.verilog_tree.proofs.OneList.{some_is}
 use Rattle.verilog_tree.proofs.Scans.{token_short}
-
-pub some_is : {A : Type 0} (x y : A) → ◌≡◌ {A = Option A} (Some x) (Some y) → x ≡ y
-some_is x y e = cc
 
 -- what is skipped leaves no more than there was
 at_end_short : (m : Mode) (left : List ℕ) → at_end m ≡ Some left → length left ≤ 0

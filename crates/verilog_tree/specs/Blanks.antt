@@ -1,6 +1,6 @@
 -- What may stand between tokens: spaces and comments.
 -- A comment is "//" up to a line feed or the end of the text, or "/*" up to the next "*/" behind it, so that "/*/" is only a beginning.
-use Rattle.std.specs.Prelude.{ℕ, Bool, true, false, ◌&&◌, ◌==◌, List, [], ◌∷◌, Option, Some, None}
+use Rattle.std.specs.Prelude.{ℕ, ◌&&◌, ◌==◌, List, [], ◌∷◌, Option, Some, None}
 use Rattle.verilog_tree.specs.Bytes.{choose, is_space, begins}
 
 -- where a byte stands
@@ -32,6 +32,7 @@ at_end Opening = None
 at_end Block = None
 at_end Closing = None
 
+-- the text here where a token begins, and else what comes of the mode
 abbrev pub on_mode : Option Mode → List ℕ → (Mode → Option (List ℕ)) → Option (List ℕ)
 on_mode None bytes go = Some bytes
 on_mode (Some m) bytes go = go m

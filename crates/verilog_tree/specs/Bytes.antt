@@ -32,6 +32,7 @@ abbrev pub behind : (ℕ → Bool) → List ℕ → List ℕ
 behind p [] = []
 behind p (b ∷ bs) = choose (p b) (λ _. behind p bs) (λ _. b ∷ bs)
 
+-- whether a text begins with a byte
 abbrev pub begins : ℕ → List ℕ → Bool
 begins c [] = false
 begins c (b ∷ bs) = b == c

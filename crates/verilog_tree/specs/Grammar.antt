@@ -53,15 +53,19 @@ level e = 8
 
 -- ---- tokens
 
+-- a sign at a place
 abbrev pub mark : ℕ → Sign → Placed
 mark at s = record { at = at; lexeme = Mark s }
 
+-- the token of a name
 abbrev pub name_token : Ident → Placed
 name_token i = record { at = i.at; lexeme = Word i.text }
 
+-- of a number
 abbrev pub number_token : Num → Placed
 number_token n = record { at = n.at; lexeme = Number n.value }
 
+-- and of a literal
 abbrev pub literal_token : Lit → Placed
 literal_token l = record { at = l.at; lexeme = Sized l.width l.value }
 
@@ -76,6 +80,7 @@ abbrev pub SpellsPair : Pair → List Placed → List Placed → Type 0
 SpellsPair p ts rest = (colon close : ℕ) ×
     (ts ≡ mark p.at sign.OpenBracket ∷ number_token p.first ∷ mark colon sign.Colon ∷ number_token p.second ∷ mark close sign.CloseBracket ∷ rest)
 
+-- an expression of any level
 abbrev mutual
   pub Spells : Expr → List Placed → List Placed → Type 0
   -- literal

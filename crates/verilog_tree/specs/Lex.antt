@@ -9,7 +9,7 @@
 --
 -- The longer signs of Verilog that begin as these, << <<< === && || ~& ~| ~^ ^~, are taken whole too, and are no tokens here.
 -- A malformed token, as a number of ten digits, a word of 256 bytes or 8'h1ff, is no token: it has no other reading as shorter ones.
-use Rattle.std.specs.Prelude.{◌≡◌, ℕ, ◌+◌, ◌^◌, Bool, true, false, not, ◌&&◌, ◌||◌, ◌==◌, nat_le, nat_lt, List, [], ◌∷◌, length, filter, Option, Some, None}
+use Rattle.std.specs.Prelude.{◌≡◌, ℕ, ◌+◌, ◌^◌, Bool, not, ◌&&◌, ◌||◌, ◌==◌, nat_le, nat_lt, List, [], ◌∷◌, length, filter, Option, Some, None}
 use Rattle.std.specs.Char.{digit_value}
 use Rattle.std.specs.Str.Parse.{digits_value}
 use Rattle.verilog_tree.specs.Signs.{Sign}
@@ -24,6 +24,7 @@ Scan = Option (Lexeme × List ℕ)
 
 -- ---- words
 
+-- a word, given its bytes and what is behind them
 abbrev pub word_scan : List ℕ → List ℕ → Scan
 word_scan text rest = choose (nat_le (length text) 255) (λ _. Some (Word text, rest)) (λ _. None)
 
@@ -41,6 +42,7 @@ in_base base b = nat_lt (digit_value b) base
 abbrev pub in_literal : ℕ → ℕ → Bool
 in_literal base b = in_base base b || b == 95
 
+-- a literal of a size and a value, if the value fits
 abbrev pub literal_scan : ℕ → ℕ → List ℕ → Scan
 literal_scan width value rest = choose (nat_lt value (2 ^ width)) (λ _. Some (Sized width value, rest)) (λ _. None)
 
@@ -51,6 +53,7 @@ behind_base width base (d ∷ ds) = choose (in_base base d)
     (λ _. literal_scan width (digits_value base (filter (λ b. not (b == 95)) (d ∷ front (in_literal base) ds))) (behind (in_literal base) ds))
     (λ _. None)
 
+-- behind a letter that names a base
 abbrev pub with_base : Option ℕ → ℕ → List ℕ → Scan
 with_base None width bytes = None
 with_base (Some base) width bytes = behind_base width base bytes
@@ -66,6 +69,7 @@ is_size digits = not (begins 48 digits) && nat_le (digits_value 10 digits) 64
 
 -- ---- numbers
 
+-- a number, given its digits and what is behind them
 abbrev pub number_scan : List ℕ → List ℕ → Scan
 number_scan digits rest = choose (nat_le (length digits) 9) (λ _. Some (Number (digits_value 10 digits), rest)) (λ _. None)
 
@@ -80,6 +84,7 @@ behind_digits digits (b ∷ bs) = choose (b == 39) (λ _. choose (is_size digits
 abbrev pub single_signs : List (ℕ × Sign)
 single_signs = (40, sign.Open) ∷ (41, sign.Close) ∷ (91, sign.OpenBracket) ∷ (93, sign.CloseBracket) ∷ (123, sign.OpenBrace) ∷ (125, sign.CloseBrace) ∷ (44, sign.Comma) ∷ (59, sign.Semicolon) ∷ (58, sign.Colon) ∷ (63, sign.Question) ∷ (64, sign.At) ∷ (43, sign.Plus) ∷ (45, sign.Minus) ∷ []
 
+-- the sign of a list that is a byte
 abbrev pub single_sign : List (ℕ × Sign) → ℕ → List ℕ → Scan
 single_sign [] b rest = None
 single_sign (s ∷ signs) b rest = choose (b == s.0) (λ _. Some (Mark s.1, rest)) (λ _. single_sign signs b rest)

@@ -17,7 +17,6 @@ use Rattle.std.specs.Prelude.{◌≡◌, ℕ, ◌≤◌, Bool, true, false, ◌�
 use Rattle.verilog_tree.specs.Signs.{Sign}
 use Rattle.verilog_tree.specs.Signs as sign
 use Rattle.verilog_tree.specs.Lexemes.{Word, Placed}
-use Rattle.verilog_tree.specs.declared.expr.Ident.{Ident}
 use Rattle.verilog_tree.specs.declared.tree.Driver.{Driver}
 use Rattle.verilog_tree.specs.declared.expr.Pair.{Pair}
 use Rattle.verilog_tree.specs.declared.tree.PortDecl.{PortDecl}
@@ -31,6 +30,7 @@ use Rattle.verilog_tree.specs.Grammar.{Spells, SpellsPair, mark, name_token, lit
 use Rattle.verilog_tree.specs.Depth.{depth_of}
 use Rattle.verilog_tree.specs.Lex.{HasTokens}
 
+-- a word of the grammar at a place
 abbrev pub keyword : ℕ → List ℕ → Placed
 keyword at w = record { at = at; lexeme = Word w }
 
@@ -49,6 +49,7 @@ SpellsRange (Some p) ts rest = SpellsPair p ts rest
 abbrev pub SpellsWire : List Placed → List Placed → Type 0
 SpellsWire ts rest = (ts ≡ rest) ⊎ ((at : ℕ) × (ts ≡ keyword at (codes "wire") ∷ rest))
 
+-- the word before a port
 abbrev pub direction : Bool → List ℕ
 direction true = codes "input"
 direction false = codes "output"
@@ -75,6 +76,7 @@ abbrev pub SpellsDriven : Option Driver → List Placed → List Placed → Type
 SpellsDriven None ts rest = (end : ℕ) × (ts ≡ mark end sign.Semicolon ∷ rest)
 SpellsDriven (Some d) ts rest = SpellsDriver sign.Assign d ts rest
 
+-- stmt
 abbrev pub SpellsStmt : Stmt → List Placed → List Placed → Type 0
 -- name "<=" expr ";"
 SpellsStmt (Next target driver) ts rest = (mid : List Placed) × IsName target × (ts ≡ name_token target ∷ mid) × SpellsDriver sign.LessEqual driver mid rest
@@ -90,6 +92,7 @@ SpellsStmt (Write at paren_at enable target bracket_at index driver) ts rest = (
 
 -- ---- items
 
+-- item
 abbrev pub SpellsItem : Item → List Placed → List Placed → Type 0
 -- "wire" [ range ] name [ "=" expr ] ";"
 SpellsItem (Wire at range name driver) ts rest = (a b : List Placed) × IsName name ×

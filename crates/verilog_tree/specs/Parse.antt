@@ -12,11 +12,13 @@ use Rattle.verilog_tree.specs.declared.expr.Expr.{Expr, Literal, Named, Select}
 use Rattle.verilog_tree.specs.declared.expr.Expr.TheVariants.{Cell, Paren, Not, Join, Binary, Choice}
 use Rattle.verilog_tree.specs.Depth.{depth_of}
 use Rattle.verilog_tree.specs.Grammar.{level_of}
-use Rattle.verilog_tree.specs.Readers.{Stop, Wrong, Deep, ◌>>=◌, Reader, expect, is_mark, number}
+use Rattle.verilog_tree.specs.Readers.{Stop, Wrong, Deep, ◌>>=◌, expect, is_mark, number}
 
+-- an expression and what follows it
 abbrev pub Read : Type 0
 Read = Result (Expr × List Placed) Stop
 
+-- what reads an expression
 abbrev pub Parser : Type 0
 Parser = List Placed → Read
 
@@ -27,6 +29,7 @@ either_way false first second = second tt
 
 -- ---- what stands behind an operand
 
+-- the operator that a sign is, if any
 abbrev pub operator : Sign → Option BinSign
 operator sign.Or = Some bin.Or
 operator sign.Xor = Some bin.Xor
@@ -43,15 +46,18 @@ pub data Next : Type 0 where
   Question : ℕ → List Placed → Next
   Nothing : Next
 
+-- an operator at a place
 abbrev pub operates : Option BinSign → ℕ → List Placed → Next
 operates None at ts = Nothing
 operates (Some op) at ts = Operator op at ts
 
+-- what a token goes on with
 abbrev pub next_at : Lexeme → ℕ → List Placed → Next
 next_at (Mark sign.Question) at ts = Question at ts
 next_at (Mark s) at ts = operates (operator s) at ts
 next_at _ at ts = Nothing
 
+-- what the next token goes on with
 abbrev pub next : List Placed → Next
 next [] = Nothing
 next (t ∷ ts) = next_at t.lexeme t.at ts
@@ -74,6 +80,7 @@ abbrev pub indexed_at : (ℕ → Parser) → Ident → ℕ → Lexeme → ℕ �
 indexed_at part i at (Number n) at' ts all = selection i at (record { at = at'; value = n }) ts
 indexed_at part i at _ at' ts all = cell part i at all
 
+-- numbers behind "[" are a selection, anything else is an index
 abbrev pub indexed : (ℕ → Parser) → Ident → ℕ → List Placed → Read
 indexed part i at [] = cell part i at []
 indexed part i at (t ∷ ts) = indexed_at part i at t.lexeme t.at ts (t ∷ ts)
@@ -83,20 +90,24 @@ abbrev pub named_at : (ℕ → Parser) → Ident → Bool → ℕ → List Place
 named_at part i true at ts all = indexed part i at ts
 named_at part i false at ts all = Ok (Named i, all)
 
+-- a name, and brackets if they follow
 abbrev pub named : (ℕ → Parser) → Ident → List Placed → Read
 named part i [] = Ok (Named i, [])
 named part i (t ∷ ts) = named_at part i (is_mark sign.OpenBracket t.lexeme) t.at ts (t ∷ ts)
 
 -- ---- behind "{"
 
+-- expressions and what follows them
 abbrev pub Parts : Type 0
 Parts = Result (List Expr × List Placed) Stop
 
+-- behind a part: "," and more parts, or "}"
 abbrev pub parts_after : (List Placed → Parts) → Expr → Lexeme → List Placed → List Placed → Parts
 parts_after more e (Mark sign.Comma) ts all = more ts >>= λ rest. Ok (e ∷ rest.0, rest.1)
 parts_after more e (Mark sign.CloseBrace) ts all = Ok (e ∷ [], ts)
 parts_after more e _ ts all = Err (Wrong all)
 
+-- behind a part, at the next token
 abbrev pub parts_behind : (List Placed → Parts) → Expr → List Placed → Parts
 parts_behind more e [] = Err (Wrong [])
 parts_behind more e (t ∷ ts) = parts_after more e t.lexeme ts (t ∷ ts)
@@ -116,9 +127,11 @@ paren part at ts = part 0 ts >>= λ inner. expect sign.Close inner.1 >>= λ clos
 unfoldable pub negated : (ℕ → Parser) → ℕ → List Placed → Read
 negated part at ts = part 8 ts >>= λ inner. Ok (Not at inner.0, inner.1)
 
+-- behind "{"
 unfoldable pub joined : (ℕ → Parser) → ℕ → List Placed → Read
 joined part at ts = parts part (length ts) ts >>= λ all. Ok (Join at all.0, all.1)
 
+-- a word, which must be a name
 abbrev pub word_at : (ℕ → Parser) → Bool → Ident → List Placed → List Placed → Read
 word_at part true i ts all = Err (Wrong all)
 word_at part false i ts all = named part i ts
@@ -132,6 +145,7 @@ start_at part n (Mark sign.OpenBrace) at ts all = joined part at ts
 start_at part n (Mark sign.Not) at ts all = either_way (nat_le n 7) (λ _. negated part at ts) (λ _. Err (Wrong all))
 start_at part n _ at ts all = Err (Wrong all)
 
+-- an operand
 abbrev pub start : (ℕ → Parser) → ℕ → List Placed → Read
 start part n [] = Err (Wrong [])
 start part n (t ∷ ts) = start_at part n t.lexeme t.at ts (t ∷ ts)

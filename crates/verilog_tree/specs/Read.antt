@@ -2,7 +2,7 @@
 use Rattle.std.specs.Prelude.{ℕ, zero, suc, Bool, true, false, List, [], ◌∷◌, length, Option, Some, None, Result, Ok, Err, codes}
 use Rattle.verilog_tree.specs.Signs.{Sign}
 use Rattle.verilog_tree.specs.Signs as sign
-use Rattle.verilog_tree.specs.Lexemes.{Lexeme, Word, Number, Sized, Mark, Placed}
+use Rattle.verilog_tree.specs.Lexemes.{Lexeme, Word, Sized, Placed}
 use Rattle.verilog_tree.specs.declared.expr.Ident.{Ident}
 use Rattle.verilog_tree.specs.declared.expr.Lit.{Lit}
 use Rattle.verilog_tree.specs.declared.expr.Pair.{Pair}
@@ -19,31 +19,36 @@ use Rattle.verilog_tree.specs.Bytes.{choose}
 use Rattle.verilog_tree.specs.Words.{same_bytes, is_reserved}
 use Rattle.verilog_tree.specs.Readers.{Stop, Wrong, ◌>>=◌, Reader, expect, is_mark, number}
 use Rattle.verilog_tree.specs.Parse.{parse}
+use Rattle.verilog_tree.specs.TokensOf.{tokens_of}
 
 -- ---- words
 
+-- whether a token is a word
 abbrev pub is_word : List ℕ → Lexeme → Bool
 is_word w (Word v) = same_bytes v w
 is_word w _ = false
 
--- a word of the grammar: its place, and what follows it
+-- the next token, if it passed as the word
 abbrev pub keyword_at : Bool → ℕ → List Placed → List Placed → Result (ℕ × List Placed) Stop
 keyword_at true at ts all = Ok (at, ts)
 keyword_at false at ts all = Err (Wrong all)
 
+-- a word of the grammar that must come: its place, and what follows it
 abbrev pub keyword : List ℕ → Reader ℕ
 keyword w [] = Err (Wrong [])
 keyword w (t ∷ ts) = keyword_at (is_word w t.lexeme) t.at ts (t ∷ ts)
 
--- a name
+-- a word, if it is not reserved
 abbrev pub name_by : Bool → Ident → List Placed → List Placed → Result (Ident × List Placed) Stop
 name_by true i ts all = Err (Wrong all)
 name_by false i ts all = Ok (i, ts)
 
+-- the next token, if it is a name
 abbrev pub name_at : Lexeme → ℕ → List Placed → List Placed → Result (Ident × List Placed) Stop
 name_at (Word w) at ts all = name_by (is_reserved w) (record { at = at; text = w }) ts all
 name_at _ at ts all = Err (Wrong all)
 
+-- a name that must come
 abbrev pub name : Reader Ident
 name [] = Err (Wrong [])
 name (t ∷ ts) = name_at t.lexeme t.at ts (t ∷ ts)
@@ -64,6 +69,7 @@ unfoldable pub pair : Reader Pair
 pair ts = expect sign.OpenBracket ts >>= λ at. number at.1 >>= λ first. expect sign.Colon first.1 >>= λ colon. number colon.1 >>= λ second. expect sign.CloseBracket second.1 >>= λ close.
     Ok (record { at = at.0; first = first.0; second = second.0 }, close.1)
 
+-- [ "[" number ":" number "]" ]
 unfoldable pub range : Reader (Option Pair)
 range ts = by_next (is_mark sign.OpenBracket) (λ us. pair us >>= λ p. Ok (Some p.0, p.1)) (λ us. Ok (None, us)) ts
 
@@ -85,10 +91,12 @@ driven ts = by_next (is_mark sign.Semicolon) (λ us. expect sign.Semicolon us >>
 unfoldable pub optional_wire : Reader (Unit {0})
 optional_wire ts = by_next (is_word (codes "wire")) (λ us. keyword (codes "wire") us >>= λ at. Ok (tt, at.1)) (λ us. Ok (tt, us)) ts
 
+-- the port behind "input" or "output"
 unfoldable pub port_of : Bool → List ℕ → Reader PortDecl
 port_of input w ts = keyword w ts >>= λ at. optional_wire at.1 >>= λ wire. range wire.1 >>= λ r. name r.1 >>= λ i.
     Ok (record { at = at.0; input = input; range = r.0; name = i.0 }, i.1)
 
+-- ( "input" | "output" ) [ "wire" ] [ range ] name
 unfoldable pub port : Reader PortDecl
 port ts = by_next (is_word (codes "input")) (port_of true (codes "input")) (port_of false (codes "output")) ts
 
@@ -119,11 +127,12 @@ assign ts = keyword (codes "assign") ts >>= λ at. name at.1 >>= λ i. driver si
 unfoldable pub next_value : Reader Stmt
 next_value ts = name ts >>= λ i. driver sign.LessEqual i.1 >>= λ d. Ok (Next i.0 d.0, d.1)
 
--- a literal
+-- the next token, if it is a literal
 abbrev pub literal_at : Lexeme → ℕ → List Placed → List Placed → Result (Lit × List Placed) Stop
 literal_at (Sized w v) at ts all = Ok (record { at = at; width = w; value = v }, ts)
 literal_at _ at ts all = Err (Wrong all)
 
+-- a literal that must come
 abbrev pub literal : Reader Lit
 literal [] = Err (Wrong [])
 literal (t ∷ ts) = literal_at t.lexeme t.at ts (t ∷ ts)
@@ -148,6 +157,7 @@ unfoldable pub conditional : Reader Stmt
 conditional ts = keyword (codes "if") ts >>= λ at. expect sign.Open at.1 >>= λ paren. expr paren.1 >>= λ e. expect sign.Close e.1 >>= λ close. name close.1 >>= λ i.
     choose (is_reset e.0) (λ _. by_next (is_mark sign.LessEqual) (reset_behind at.0 i.0) (write_behind at.0 paren.0 e.0 i.0) i.1) (λ _. write_behind at.0 paren.0 e.0 i.0 i.1)
 
+-- a statement, told by its first word
 unfoldable pub stmt : Reader Stmt
 stmt ts = by_next (is_word (codes "if")) conditional next_value ts
 
@@ -156,6 +166,7 @@ unfoldable pub always : Reader Item
 always ts = keyword (codes "always") ts >>= λ at. expect sign.At at.1 >>= λ s. expect sign.Open s.1 >>= λ paren. keyword (codes "posedge") paren.1 >>= λ edge. keyword (codes "clk") edge.1 >>= λ clock. expect sign.Close clock.1 >>= λ close. stmt close.1 >>= λ x.
     Ok (Always at.0 x.0, x.1)
 
+-- an item, told by its first word
 unfoldable pub item : Reader Item
 item ts = by_next (is_word (codes "wire")) wire (by_next (is_word (codes "reg")) reg (by_next (is_word (codes "assign")) assign always)) ts
 
@@ -166,14 +177,17 @@ items (suc n) ts = by_next (is_word (codes "endmodule")) (λ us. Ok ([], us)) (�
 
 -- ---- the module
 
+-- a tree behind which no token is left
 abbrev pub at_end : Tree → List Placed → Result Tree Stop
 at_end t [] = Ok t
 at_end t (u ∷ us) = Err (Wrong (u ∷ us))
 
+-- the tree, if all was read
 abbrev pub finished : Result (Tree × List Placed) Stop → Result Tree Stop
 finished (Ok x) = at_end x.0 x.1
 finished (Err s) = Err s
 
+-- the module at the head of a list of tokens; its ports and items are at most as many as n
 unfoldable pub module_of : ℕ → Reader Tree
 module_of n ts = keyword (codes "module") ts >>= λ at. name at.1 >>= λ i. expect sign.Open i.1 >>= λ paren. ports n paren.1 >>= λ ps. expect sign.Semicolon ps.1 >>= λ end. items n end.1 >>= λ is. keyword (codes "endmodule") is.1 >>= λ last.
     Ok (record { at = at.0; name = i.0; ports = ps.0; items = is.0 }, last.1)
@@ -181,3 +195,19 @@ module_of n ts = keyword (codes "module") ts >>= λ at. name at.1 >>= λ i. expe
 -- the module that all of the tokens spell
 abbrev pub read : List Placed → Result Tree Stop
 read ts = finished (module_of (length ts) ts)
+
+-- ---- the text
+
+-- the tree that was read, if any
+abbrev pub made : Result Tree Stop → Option Tree
+made (Ok t) = Some t
+made (Err s) = None
+
+-- the tree of a text with these tokens, if it has any
+abbrev pub read_tokens : Option (List Placed) → Option Tree
+read_tokens None = None
+read_tokens (Some ts) = made (read ts)
+
+-- the tree of a text, given its bytes
+unfoldable pub read_text : List ℕ → Option Tree
+read_text bytes = read_tokens (tokens_of (suc (length bytes)) (length bytes) bytes)

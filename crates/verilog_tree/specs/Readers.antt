@@ -2,7 +2,7 @@
 use Rattle.std.specs.Prelude.{ℕ, Bool, true, false, List, [], ◌∷◌, Result, Ok, Err}
 use Rattle.verilog_tree.specs.Signs.{Sign}
 use Rattle.verilog_tree.specs.Signs as sign
-use Rattle.verilog_tree.specs.Lexemes.{Lexeme, Word, Number, Sized, Mark, Placed}
+use Rattle.verilog_tree.specs.Lexemes.{Lexeme, Number, Mark, Placed}
 use Rattle.verilog_tree.specs.declared.expr.Num.{Num}
 
 -- Where reading stops, with what is left: at the first token that does not fit, or at a token behind which the expression is too deep.
@@ -15,10 +15,12 @@ abbrev pub Reader : Type 0 → Type 0
 Reader A = List Placed → Result (A × List Placed) Stop
 
 infixl 10 ◌>>=◌
+-- one step after another, for as long as they go on
 abbrev pub ◌>>=◌ : {A B : Type 0} → Result A Stop → (A → Result B Stop) → Result B Stop
 (Ok x) >>= f = f x
 (Err e) >>= f = Err e
 
+-- whether two signs are the same
 abbrev pub same_sign : Sign → Sign → Bool
 same_sign sign.Open sign.Open = true
 same_sign sign.Close sign.Close = true
@@ -48,20 +50,22 @@ abbrev pub is_mark : Sign → Lexeme → Bool
 is_mark s (Mark t) = same_sign s t
 is_mark s _ = false
 
--- a sign that must come: its place, and what follows it
+-- the next token, if it passed as the sign
 abbrev pub expect_at : Bool → ℕ → List Placed → List Placed → Result (ℕ × List Placed) Stop
 expect_at true at ts all = Ok (at, ts)
 expect_at false at ts all = Err (Wrong all)
 
+-- a sign that must come: its place, and what follows it
 abbrev pub expect : Sign → List Placed → Result (ℕ × List Placed) Stop
 expect s [] = Err (Wrong [])
 expect s (t ∷ ts) = expect_at (is_mark s t.lexeme) t.at ts (t ∷ ts)
 
--- a number that must come
+-- the next token, if it is a number
 abbrev pub number_at : Lexeme → ℕ → List Placed → List Placed → Result (Num × List Placed) Stop
 number_at (Number n) at ts all = Ok (record { at = at; value = n }, ts)
 number_at _ at ts all = Err (Wrong all)
 
+-- a number that must come
 abbrev pub number : List Placed → Result (Num × List Placed) Stop
 number [] = Err (Wrong [])
 number (t ∷ ts) = number_at t.lexeme t.at ts (t ∷ ts)

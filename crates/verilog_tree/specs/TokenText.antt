@@ -1,12 +1,12 @@
 -- What a token of the Rust type says.
-use Rattle.std.specs.Prelude.{◌≡◌, ℕ, ◌-◌, ◌<◌, ◌≤◌, List, [], ◌∷◌, length, take, drop, Option, Some}
-use Rattle.verilog_tree.specs.Signs.{Sign}
+use Rattle.std.specs.Prelude.{◌≡◌, ℕ, ◌-◌, ◌≤◌, List, [], ◌∷◌, length, take, drop, Some}
 use Rattle.verilog_tree.specs.Lexemes.{Lexeme, Word, Number, Sized, Mark, Placed}
 use Rattle.verilog_tree.specs.Lex.{token_at}
 use Rattle.verilog_tree.specs.declared.token.TokenKind.{TokenKind}
 use Rattle.verilog_tree.specs.declared.token.TokenKind.TheVariants as kind
 use Rattle.verilog_tree.specs.declared.token.Token.{Token}
 
+-- the kind of a token
 abbrev pub kind_of : Lexeme → TokenKind
 kind_of (Word w) = kind.Word
 kind_of (Number n) = kind.Number
@@ -17,14 +17,14 @@ kind_of (Mark s) = kind.Sign
 abbrev pub token_text : List ℕ → Token → List ℕ
 token_text bytes t = take (t.to - t.from) (drop t.from bytes)
 
--- these bytes, all of them, are the token
-abbrev pub IsSpelled : Lexeme → List ℕ → Type 0
-IsSpelled x [] = ⊥
-IsSpelled x (b ∷ bs) = token_at b bs ≡ Some (x, [])
+-- the bytes begin with the token, which leaves the rest
+abbrev pub StandsBefore : List ℕ → Lexeme → List ℕ → Type 0
+StandsBefore rest x [] = ⊥
+StandsBefore rest x (b ∷ bs) = token_at b bs ≡ Some (x, rest)
 
--- the token of a text at its place: its kind, where it stands, and what its text says
+-- a token of a text as the Rust type has it: its kind, its place, and that it is what stands there, up to its end
 pub record IsTokenOf (bytes : List ℕ) (t : Token) (p : Placed) : Type 0 where
   pub sort : t.kind ≡ kind_of p.lexeme
   pub place : t.from ≡ p.at
   pub inside : t.to ≤ length bytes
-  pub text : IsSpelled p.lexeme (token_text bytes t)
+  pub stands : StandsBefore (drop t.to bytes) p.lexeme (drop t.from bytes)

@@ -5,14 +5,15 @@ use Rattle.verilog_tree.specs.Blanks.{Mode, Between, mode_after, skipped}
 use Rattle.verilog_tree.specs.Lex.{token_at, Scan}
 use Rattle.verilog_tree.specs.TokensOf.{with_token}
 
+-- what comes of a mode, if there is one
+abbrev pub on_next : Option Mode → (Mode → Option Mode) → Option Mode
+on_next None go = None
+on_next (Some m) go = go m
+
 -- where the byte behind these spaces and comments stands; none where a token begins among them
 abbrev pub mode_behind : Mode → List ℕ → Option Mode
 mode_behind m [] = Some m
 mode_behind m (b ∷ bs) = on_next (mode_after m b bs) (λ n. mode_behind n bs)
-  where
-    on_next : Option Mode → (Mode → Option Mode) → Option Mode
-    on_next None go = None
-    on_next (Some n) go = go n
 
 -- no token more, where a token may begin behind the front
 abbrev pub ahead_end : Option Mode → Option (List Placed)
@@ -25,6 +26,7 @@ ahead_scan at None go = None
 ahead_scan at (Some (t, [])) go = None
 ahead_scan at (Some (t, (r ∷ rs))) go = with_token (record { at = at; lexeme = t }) (go (r ∷ rs))
 
+-- what begins a front behind its blanks: nothing, or a token
 abbrev pub ahead_text : ℕ → Option (List ℕ) → Option Mode → (List ℕ → Option (List Placed)) → Option (List Placed)
 ahead_text size None end go = None
 ahead_text size (Some []) end go = ahead_end end

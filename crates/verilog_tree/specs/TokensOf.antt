@@ -4,14 +4,17 @@ use Rattle.verilog_tree.specs.Lexemes.{Placed}
 use Rattle.verilog_tree.specs.Blanks.{Between, skipped}
 use Rattle.verilog_tree.specs.Lex.{token_at, Scan}
 
+-- a token before the others
 abbrev pub with_token : Placed → Option (List Placed) → Option (List Placed)
 with_token t None = None
 with_token t (Some ts) = Some (t ∷ ts)
 
+-- a token at a place, and then the others
 abbrev pub on_scan : ℕ → Scan → (List ℕ → Option (List Placed)) → Option (List Placed)
 on_scan at None go = None
 on_scan at (Some x) go = with_token (record { at = at; lexeme = x.0 }) (go x.1)
 
+-- what begins a text behind its blanks: nothing, or a token
 abbrev pub on_text : ℕ → Option (List ℕ) → (List ℕ → Option (List Placed)) → Option (List Placed)
 on_text size None go = None
 on_text size (Some []) go = Some []

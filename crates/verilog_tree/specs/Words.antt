@@ -1,12 +1,14 @@
 -- The words that are no names.
 use Rattle.std.specs.Prelude.{ℕ, Bool, true, false, ◌&&◌, ◌||◌, ◌==◌, List, [], ◌∷◌, codes}
 
+-- whether two words are the same
 abbrev pub same_bytes : List ℕ → List ℕ → Bool
 same_bytes [] [] = true
 same_bytes [] (c ∷ cs) = false
 same_bytes (b ∷ bs) [] = false
 same_bytes (b ∷ bs) (c ∷ cs) = b == c && same_bytes bs cs
 
+-- whether a word is one of a list
 abbrev pub is_among : List ℕ → List (List ℕ) → Bool
 is_among w [] = false
 is_among w (v ∷ vs) = same_bytes w v || is_among w vs

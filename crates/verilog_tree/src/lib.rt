@@ -15,6 +15,6 @@ mod token;
 mod tree;
 
 pub use expr::{BinSign, Expr, Ident, Lit, Num, Pair};
-pub use law::text_has_one_tree;
+pub use law::{text_has_one_tree, tree_is_computed};
 pub use token::{Token, TokenKind};
 pub use tree::{Driver, Item, PortDecl, Stmt, Tree};

@@ -7,7 +7,7 @@ pub enum TokenKind {
     Number,
     /// A number with a size and a base, as `8'h1f` (3.5.1).
     Literal,
-    /// An operator or a mark, as `<=` or `;` (3.3).
+    /// An operator or a mark, as `<=` or `;` (3.4).
     Sign,
 }
 

@@ -8,7 +8,7 @@ pub struct Driver {
     pub value: Expr,
 }
 
-/// A port, declared in the module's head (IEEE 1364-2005, 12.3.3). `at` is the place of `input` or
+/// A port, declared in the module's head (IEEE 1364-2005, 12.3.4). `at` is the place of `input` or
 /// `output`.
 #[derive(Drop)]
 pub struct PortDecl {

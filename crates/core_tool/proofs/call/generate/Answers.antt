@@ -5,7 +5,7 @@ use Rattle.fixed_core.specs.Text.{core_text}
 use Rattle.core_tool.specs.Config.{config_of}
 use Rattle.core_tool.specs.declared.config.ConfigError.TheVariants.{Refused}
 use Rattle.core_tool.proofs.Configs.{IsAnswer, answer_ok, config_of-reset_pc}
-use Rattle.core_tool.proofs.Calls.{gives, is_refused, core_text-IsTextFor, Rose-earlier}
+use Rattle.core_tool.proofs.Calls.{gives, is_refused, Rose-earlier}
 use Rattle.core_tool.proofs.call.generate.Goals as goal
 
 pub returns-in-Err-Refused-clause-ends : goal.returns-in-Err-Refused-clause-ends
@@ -30,7 +30,7 @@ returns-in-Ok-push_core-clause-ends g c =
     record {
       reset_pc = n;
       cause = gives c.args.name.now (g.H.Host.files c.args.host.now) c.in-Ok.bytes.items n c.in-Ok.ensures.bytes answer;
-      on_main = (core_text n, core_text-IsTextFor n, c.in-Ok-push_core.ensures.whole ∙ ap (λ p. grown p (core_text n)) (c.in-Ok.ensures.ports Main));
+      on_main = (core_text n, c.in-Ok-push_core.ensures.core, c.in-Ok-push_core.ensures.whole ∙ ap (λ p. grown p (core_text n)) (c.in-Ok.ensures.ports Main));
       unwritten = λ e. cc;
     }
 
@@ -41,6 +41,6 @@ returns-clause-ends g c =
     record {
       reset_pc = n;
       cause = gives c.args.name.now (g.H.Host.files c.args.host.now) c.in-Ok.bytes.items n c.in-Ok.ensures.bytes answer;
-      on_main = (core_text n, core_text-IsTextFor n, subst (λ p. IsCut p (core_text n) (g.H.Host.pushed c.push_core.new.host Main)) (c.in-Ok.ensures.ports Main) c.in-Err.ensures.part);
+      on_main = (core_text n, c.in-Err.ensures.core, subst (λ p. IsCut p (core_text n) (g.H.Host.pushed c.push_core.new.host Main)) (c.in-Ok.ensures.ports Main) c.in-Err.ensures.part);
       unwritten = λ e. Rose-earlier _ _ _ c.in-Ok.ensures.writes c.in-Err.ensures.cause;
     }

@@ -1,4 +1,4 @@
-use Rattle.std.proofs.Common.{◌≡◌, IsTrue, refl, inl, arith}
+use Rattle.std.proofs.Common.{IsTrue, refl, inl, arith}
 use Rattle.std.proofs.lemmas.Grind.{common_steps}
 use Rattle.core_host.specs.Memory.{is_to_fail}
 use Rattle.core_host.proofs.memory.MemHostHost.find.Goals as goal
