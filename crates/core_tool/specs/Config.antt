@@ -1,7 +1,8 @@
 -- What a configuration says: its reset pc, or why it is refused.
 use Rattle.std.specs.Prelude.{ℕ, ℤ, pos, negsuc, ◌%◌, nat_eq, nat_lt, nat_le, List, length, Option, Some, None, Result, Ok, Err, ◌&&◌, if◌then◌else◌, codes}
 use Rattle.std.specs.Str.{is_utf8}
-use Rattle.std.specs.Cmp.Lexicographic.{pointwise}
+use Rattle.std.specs.Ordering.{nat_cmp, is_lt}
+use Rattle.std.specs.Cmp.Lexicographic.{pointwise, slice_cmp}
 use Rattle.toml.specs.Data.{Data, integer, Members, no_members, member, get_member}
 use Rattle.toml.specs.Parse.{parse_document}
 use Rattle.core_tool.specs.declared.config.Want.TheVariants.{Integer, NoKey}
@@ -28,10 +29,15 @@ abbrev pub reset_pc_of : Option Data → Result ℕ ConfigRefusal
 reset_pc_of None = Ok 2147483648
 reset_pc_of (Some value) = reset_pc_of_value value
 
--- the first key but that of the reset pc; the keys of a table ascend, in the order of their bytes
-abbrev pub first_other : Members → Option (List ℕ)
-first_other no_members = None
-first_other (member k d ms) = if pointwise nat_eq k reset_pc_name then first_other ms else Some k
+-- the lesser of two keys, in the order of bytes
+abbrev pub lesser : List ℕ → Option (List ℕ) → List ℕ
+lesser k None = k
+lesser k (Some l) = if is_lt (slice_cmp nat_cmp l k) then l else k
+
+-- the least key but that of the reset pc, in the order of bytes
+abbrev pub least_other : Members → Option (List ℕ)
+least_other no_members = None
+least_other (member k d ms) = if pointwise nat_eq k reset_pc_name then least_other ms else Some (lesser k (least_other ms))
 
 -- a reset pc, unless there is another key
 abbrev pub unless_other : Option (List ℕ) → ℕ → Result ℕ ConfigRefusal
@@ -45,7 +51,7 @@ first_refusal (Ok reset_pc) other = unless_other other reset_pc
 
 -- what a table says
 abbrev pub config_of_table : Members → Result ℕ ConfigRefusal
-config_of_table ms = first_refusal (reset_pc_of (get_member reset_pc_name ms)) (first_other ms)
+config_of_table ms = first_refusal (reset_pc_of (get_member reset_pc_name ms)) (least_other ms)
 
 -- what a document says
 abbrev pub config_of_document : Option Members → Result ℕ ConfigRefusal

@@ -17,7 +17,8 @@ use std::alloc::Global;
 /// Does what the words ask for, without the program's name among them, and writes a line on the
 /// port of notes that says how it ended, unless all went well or the text was cut off.
 pub fn core_main<H: Host>(alloc: Global, words: &Vec<String>, host: &mut H) -> Status
-    // There is an end that has its cause, and the ports are as it says. All that follows is said by this, status by status.
+    // There is an end that has its cause, and the ports are as it says. What follows says the
+    // same status by status, and what stays as it was.
     ensures ends { Ends (form_of (words_of words.now)) (H.files host.old)
         (H.read_faults host.old) (H.read_faults host.new) (H.write_faults host.old) (H.write_faults host.new)
         (H.pushed host.old Main) (H.pushed host.new Main) (H.pushed host.old Notes) (H.pushed host.new Notes) result }
@@ -27,25 +28,32 @@ pub fn core_main<H: Host>(alloc: Global, words: &Vec<String>, host: &mut H) -> S
     ensures refused_only { result ≡ Status.ConfigRefused → (refusal : ConfigRefusal)
         × IsRefusedAs (form_of (words_of words.now)) (H.files host.old) refusal
         × Appends (H.pushed host.old Notes) (refusal_line refusal) (H.pushed host.new Notes) }
-    ensures refused { (bytes : List ℕ) → Holds (form_of (words_of words.now)) (H.files host.old) bytes → IsErr (config_of bytes)
-        → ¬ (Rose (H.read_faults host.old) (H.read_faults host.new)) → IsUnlessCut Status.ConfigRefused result }
-    ensures fault_only { result ≡ Status.ReadFault → IsUnread (form_of (words_of words.now)) (H.files host.old) (H.read_faults host.old) (H.read_faults host.new) }
+    ensures refused { (bytes : List ℕ) → Holds (form_of (words_of words.now)) (H.files host.old) bytes
+        → IsErr (config_of bytes) → ¬ (Rose (H.read_faults host.old) (H.read_faults host.new))
+        → IsUnlessCut Status.ConfigRefused result }
+    ensures fault_only { result ≡ Status.ReadFault →
+        IsUnread (form_of (words_of words.now)) (H.files host.old) (H.read_faults host.old) (H.read_faults host.new) }
     ensures fault { Misses (form_of (words_of words.now)) (H.files host.old) → IsUnlessCut Status.ReadFault result }
     ensures write_only { result ≡ Status.WriteFault → Rose (H.write_faults host.old) (H.write_faults host.new) }
     ensures done_only { result ≡ Status.Done → (reset_pc : ℕ)
         × Gives (form_of (words_of words.now)) (H.files host.old) reset_pc
         × GotText reset_pc (H.pushed host.old Main) (H.pushed host.new Main) }
-    ensures complete { (bytes : List ℕ) → (reset_pc : ℕ) → Holds (form_of (words_of words.now)) (H.files host.old) bytes → config_of bytes ≡ Ok reset_pc
-        → ¬ (Rose (H.read_faults host.old) (H.read_faults host.new)) → ¬ (Rose (H.write_faults host.old) (H.write_faults host.new))
+    ensures complete { (bytes : List ℕ) → (reset_pc : ℕ)
+        → Holds (form_of (words_of words.now)) (H.files host.old) bytes → config_of bytes ≡ Ok reset_pc
+        → ¬ (Rose (H.read_faults host.old) (H.read_faults host.new))
+        → ¬ (Rose (H.write_faults host.old) (H.write_faults host.new))
         → (result ≡ Status.Done) ⊎ (result ≡ Status.NoMemory) }
-    ensures empty { ¬ (result ≡ Status.Done) → ¬ (result ≡ Status.WriteFault) → H.pushed host.new Main ≡ H.pushed host.old Main }
-    ensures cut { result ≡ Status.WriteFault → (H.pushed host.new Main ≡ H.pushed host.old Main) ⊎ ((reset_pc : ℕ)
+    ensures empty { ¬ (result ≡ Status.Done) → ¬ (result ≡ Status.WriteFault)
+        → H.pushed host.new Main ≡ H.pushed host.old Main }
+    ensures cut { result ≡ Status.WriteFault → (H.pushed host.new Main ≡ H.pushed host.old Main)
+        ⊎ ((reset_pc : ℕ)
         × Gives (form_of (words_of words.now)) (H.files host.old) reset_pc
         × GotCutText reset_pc (H.pushed host.old Main) (H.pushed host.new Main)) }
-    ensures notes { ¬ (result ≡ Status.WriteFault) → HasLine result (H.pushed host.old Notes) (H.pushed host.new Notes) }
+    ensures notes { ¬ (result ≡ Status.WriteFault)
+        → HasLine result (H.pushed host.old Notes) (H.pushed host.new Notes) }
     // Where the text is cut off there is no line, and where the line is cut off there is no text.
-    ensures cut_notes { result ≡ Status.WriteFault → (H.pushed host.new Notes ≡ H.pushed host.old Notes) ⊎ IsCutLine
-        (form_of (words_of words.now)) (H.files host.old) (H.read_faults host.old) (H.read_faults host.new)
+    ensures cut_notes { result ≡ Status.WriteFault → (H.pushed host.new Notes ≡ H.pushed host.old Notes)
+        ⊎ IsCutLine (form_of (words_of words.now)) (H.files host.old) (H.read_faults host.old) (H.read_faults host.new)
         (H.pushed host.old Main) (H.pushed host.new Main) (H.pushed host.old Notes) (H.pushed host.new Notes) }
     ensures pulled { Pulled 1048577 (form_of (words_of words.now)) (H.files host.old) (H.left host.old) (H.left host.new)
         (H.read_faults host.old) (H.read_faults host.new) }

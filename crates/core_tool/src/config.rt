@@ -1,6 +1,6 @@
 ghost use Rattle.std.specs.Prelude.{◌≡◌, ◌⊎◌, Option, Err, codes, option_map, string_bytes, IfOk, IfErr, OnErr};
 ghost use Rattle.toml.specs.View.{table_view, view};
-ghost use Rattle.core_tool.specs.Config.{config_of, config_of_table, reset_pc_of, first_other, config_end};
+ghost use Rattle.core_tool.specs.Config.{config_of, config_of_table, reset_pc_of, least_other, config_end};
 
 use core_host::Name;
 use std::alloc::{AllocError, Global};
@@ -89,9 +89,9 @@ fn read_table(alloc: Global, table: &Table) -> Result<u32, ConfigError>
     }
 }
 
-/// The first key, in the order of bytes, that is not `reset_pc`.
+/// The least key, in the order of bytes, that is not `reset_pc`.
 fn other_key(table: &Table) -> Option<&str>
-    ensures { option_map (λ key. key.now) result ≡ first_other (table_view table.now) }
+    ensures { option_map (λ key. key.now) result ≡ least_other (table_view table.now) }
 {
     for (key, _value) in table.iter() {
         if key.as_str() != "reset_pc" {
