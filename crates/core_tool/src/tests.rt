@@ -3,23 +3,18 @@ use core_host::{List, MemFile, MemHost, Name, Port};
 use std::alloc::{AllocError, Global};
 use std::test::Fail;
 
+/// The room of each port, in bytes.
 const ROOM: u32 = 33_554_432;
 
 /// A host that holds this text as the file `c`.
-fn host(
-    alloc: Global,
-    text: &[u8],
-    fails: &[u32],
-    bite: u32,
-    room: u32,
-) -> Result<MemHost, AllocError> {
+fn host(alloc: Global, text: &[u8], fails: &[u32], bite: u32) -> Result<MemHost, AllocError> {
     let files = vec![in alloc;
         MemFile {
             name: Name::of(String::from_str(alloc, "c")?),
             bytes: List::of(Vec::from_slice(alloc, text)?),
         },
     ]?;
-    MemHost::new(alloc, files, Vec::from_slice(alloc, fails)?, bite, room)
+    MemHost::new(alloc, files, Vec::from_slice(alloc, fails)?, bite, ROOM)
 }
 
 /// Words in a row, with a space between any two.
@@ -34,7 +29,7 @@ fn words(alloc: Global, text: &str) -> Result<Vec<String>, AllocError> {
 #[test]
 fn writes_a_core(rt: HostRuntime) -> Result<(), Fail> {
     let alloc = rt.alloc();
-    let mut host = host(alloc, b"reset_pc = 0x80000000", &[], 0, ROOM)?;
+    let mut host = host(alloc, b"reset_pc = 0x80000000", &[], 0)?;
     let status = core_main(alloc, &words(alloc, "gen c")?, &mut host);
     assert_eq!(rt; status, Status::Done);
     let text = host.pushed(Port::Main).as_slice();
@@ -62,7 +57,7 @@ fn refuses_configurations(rt: HostRuntime) -> Result<(), Fail> {
         ("\"a\\nb\" = 1", "config shape key=a\nb want=nokey\n"),
         ("reset_pc =", "config text\n"),
     ] {
-        let mut host = host(alloc, text.as_bytes(), &[], 0, 4096)?;
+        let mut host = host(alloc, text.as_bytes(), &[], 0)?;
         let status = core_main(alloc, &words(alloc, "gen c")?, &mut host);
         assert_eq!(rt; status, Status::ConfigRefused, "{text}");
         assert_eq!(rt;
@@ -89,7 +84,7 @@ fn refuses_words(rt: HostRuntime) -> Result<(), Fail> {
         "-",
         "c gen",
     ] {
-        let mut host = host(alloc, b"", &[], 0, 4096)?;
+        let mut host = host(alloc, b"", &[], 0)?;
         let status = core_main(alloc, &words(alloc, text)?, &mut host);
         assert_eq!(rt; status, Status::Usage, "{text}");
         assert_eq!(rt;
@@ -99,7 +94,7 @@ fn refuses_words(rt: HostRuntime) -> Result<(), Fail> {
         );
         assert!(rt; host.pushed(Port::Main).is_empty(), "{text}");
     }
-    let mut host = host(alloc, b"", &[], 0, 4096)?;
+    let mut host = host(alloc, b"", &[], 0)?;
     assert_eq!(rt;
         core_main(alloc, &Vec::new(alloc), &mut host),
         Status::Usage,
@@ -112,7 +107,7 @@ fn refuses_words(rt: HostRuntime) -> Result<(), Fail> {
 #[test]
 fn ends_where_a_file_is_missing_or_long(rt: HostRuntime) -> Result<(), Fail> {
     let alloc = rt.alloc();
-    let mut missing = host(alloc, b"", &[], 0, 4096)?;
+    let mut missing = host(alloc, b"", &[], 0)?;
     let status = core_main(alloc, &words(alloc, "gen d")?, &mut missing);
     assert_eq!(rt; status, Status::ReadFault);
     assert_eq!(rt;
@@ -122,11 +117,11 @@ fn ends_where_a_file_is_missing_or_long(rt: HostRuntime) -> Result<(), Fail> {
     assert!(rt; missing.pushed(Port::Main).is_empty());
 
     let mut comment = vec![in alloc; b'#'; 1_048_576]?;
-    let mut whole = host(alloc, &comment, &[], 0, ROOM)?;
+    let mut whole = host(alloc, &comment, &[], 0)?;
     let status = core_main(alloc, &words(alloc, "gen c")?, &mut whole);
     assert_eq!(rt; status, Status::Done);
     comment.push(b'#')?;
-    let mut long = host(alloc, &comment, &[], 0, 4096)?;
+    let mut long = host(alloc, &comment, &[], 0)?;
     let status = core_main(alloc, &words(alloc, "gen c")?, &mut long);
     assert_eq!(rt; status, Status::ConfigRefused);
     assert_eq!(rt;
@@ -141,13 +136,13 @@ fn ends_where_a_file_is_missing_or_long(rt: HostRuntime) -> Result<(), Fail> {
 fn cuts_the_text_off_where_a_push_fails(rt: HostRuntime) -> Result<(), Fail> {
     let alloc = rt.alloc();
     let text = b"reset_pc = 0x80000000";
-    let mut whole = host(alloc, text, &[], 0, ROOM)?;
+    let mut whole = host(alloc, text, &[], 0)?;
     assert_eq!(rt;
         core_main(alloc, &words(alloc, "gen c")?, &mut whole),
         Status::Done
     );
     // One call finds the file, two read it, and the third push fails.
-    let mut cut = host(alloc, text, &[6], 100, ROOM)?;
+    let mut cut = host(alloc, text, &[6], 100)?;
     assert_eq!(rt;
         core_main(alloc, &words(alloc, "gen c")?, &mut cut),
         Status::WriteFault
@@ -166,7 +161,7 @@ fn cuts_the_text_off_where_a_push_fails(rt: HostRuntime) -> Result<(), Fail> {
 #[test]
 fn ends_where_the_line_is_cut_off(rt: HostRuntime) -> Result<(), Fail> {
     let alloc = rt.alloc();
-    let mut host = host(alloc, b"reset_pc = 2147483646", &[4], 0, 4096)?;
+    let mut host = host(alloc, b"reset_pc = 2147483646", &[4], 0)?;
     assert_eq!(rt;
         core_main(alloc, &words(alloc, "gen c")?, &mut host),
         Status::WriteFault
@@ -180,7 +175,7 @@ fn ends_where_the_line_is_cut_off(rt: HostRuntime) -> Result<(), Fail> {
 fn ends_where_one_call_fails(rt: HostRuntime) -> Result<(), Fail> {
     let alloc = rt.alloc();
     let text = b"reset_pc = 0x80000000";
-    let mut whole = host(alloc, text, &[], 0, 8192)?;
+    let mut whole = host(alloc, text, &[], 0)?;
     assert_eq!(rt;
         core_main(alloc, &words(alloc, "gen c")?, &mut whole),
         Status::Done
@@ -201,7 +196,7 @@ fn ends_where_one_call_fails(rt: HostRuntime) -> Result<(), Fail> {
         (11, Status::Done),
         (12, Status::Done),
     ] {
-        let mut host = host(alloc, text, &[call], 0, 8192)?;
+        let mut host = host(alloc, text, &[call], 0)?;
         assert_eq!(rt;
             core_main(alloc, &words(alloc, "gen c")?, &mut host),
             status,
