@@ -4,6 +4,11 @@
 //! the buses that answer over it.
 #![tactic(auto)]
 
+mod answerer;
 mod memory;
+mod side;
+mod signals;
 
+pub use answerer::Answerer;
 pub use memory::Mem;
+pub use signals::{BusIn, BusOut};
