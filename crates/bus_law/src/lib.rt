@@ -5,10 +5,12 @@
 #![tactic(auto)]
 
 mod answerer;
+mod laws;
 mod memory;
 mod side;
 mod signals;
 
 pub use answerer::Answerer;
+pub use laws::answers_are_honest;
 pub use memory::Mem;
 pub use signals::{BusIn, BusOut};
