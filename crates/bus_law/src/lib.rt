@@ -14,3 +14,6 @@ pub use answerer::Answerer;
 pub use laws::answers_are_honest;
 pub use memory::Mem;
 pub use signals::{BusIn, BusOut};
+
+#[cfg(test)]
+mod tests;
