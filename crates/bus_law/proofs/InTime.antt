@@ -1,5 +1,5 @@
 -- One bus whose delays are at most d answers within d + 1 cycles, for a core that keeps its duties.
-use Rattle.std.proofs.Common.{◌≡◌, ℕ, zero, suc, ◌+◌, ◌-◌, ◌<◌, ◌≤◌, Bool, true, false, cond, not, eqb, List, [], ◌∷◌, length, get_or, ◌&&◌, Option, Some, None, All, refl, sym, ap, ◌∙◌, subst, arith, add-zero}
+use Rattle.std.proofs.Common.{◌≡◌, ℕ, zero, suc, ◌+◌, ◌-◌, ◌<◌, ◌≤◌, Bool, true, false, cond, not, eqb, List, [], ◌∷◌, get_or, ◌&&◌, All, refl, sym, ap, ◌∙◌, subst, arith, add-zero}
 use Rattle.std.specs.Prelude.{is_some}
 use Rattle.std.proofs.Math.Path.{ap₂}
 use Rattle.std.proofs.lemmas.Bool.Decides.{nat_tests}
@@ -11,7 +11,7 @@ use Rattle.bus_law.specs.declared.side.Turn.TheVariants.{Reset, Idle, Owed}
 use Rattle.bus_law.specs.declared.side.Side.{Side}
 use Rattle.bus_law.specs.Memory.{Memory}
 use Rattle.bus_law.specs.Protocol.{is_given, is_accepted, owed}
-use Rattle.bus_law.specs.Duties.{is_repeated, breaks_standing, breaks_waiting, KeepsDuties}
+use Rattle.bus_law.specs.Duties.{breaks_standing, breaks_waiting, KeepsDuties}
 use Rattle.bus_law.specs.Honest.{Reply, Begins, IsWithin}
 use Rattle.bus_law.specs.Sides.{is_ready, response_of, delay_at, place_after_last, turn_after, side_after, side_at_start}
 use Rattle.bus_law.proofs.Turns.{back, side_bus, Answers, Stands, stands}

@@ -1,5 +1,5 @@
 -- The run of both buses over one memory is honest.
-use Rattle.std.proofs.Common.{◌≡◌, ℕ, zero, suc, ◌<◌, Bool, true, false, cond, eqb, List, ◌&&◌, Option, Some, None, refl, sym, ap, ◌∙◌, subst}
+use Rattle.std.proofs.Common.{◌≡◌, ℕ, zero, suc, Bool, true, false, cond, eqb, List, ◌&&◌, Option, Some, None, refl, sym, ap, ◌∙◌, subst}
 use Rattle.core_words.specs.Values.{one_if}
 use Rattle.core_ports.specs.Trace.{Bus}
 use Rattle.bus_law.specs.declared.side.Answer.{Answer}
@@ -9,8 +9,8 @@ use Rattle.bus_law.specs.Memory.{Memory, word_at, is_window, written}
 use Rattle.bus_law.specs.Protocol.{is_given, is_accepted, is_write, memory_at}
 use Rattle.bus_law.specs.Honest.{FetchReply, DataReply, fetch_reply, data_reply, IsHonestAt, Honest}
 use Rattle.bus_law.specs.Sides.{is_ready, side_after, side_at_start}
-use Rattle.bus_law.specs.Answers.{State, fetched, accessed, stores, stepped, state_at, fetch_bus, access_bus}
-use Rattle.bus_law.proofs.Turns.{back, Answers, is_honest}
+use Rattle.bus_law.specs.Answers.{State, fetched, accessed, stores, state_at, fetch_bus, access_bus}
+use Rattle.bus_law.proofs.Turns.{Answers, is_honest}
 
 fetch_is : (o : Option ℕ) → FetchReply o (one_if (fetched o).error) (fetched o).payload
 fetch_is None = refl

@@ -1,7 +1,5 @@
 -- One bus that answers after delays, cycle by cycle.
-use Rattle.std.specs.Prelude.{ℕ, ◌+◌, ◌-◌, ◌%◌, Bool, true, false, cond, eqb, List, length, get_or, Option, Some, None, is_some}
-use Rattle.core_words.specs.Values.{one_if}
-use Rattle.core_ports.specs.Trace.{Bus}
+use Rattle.std.specs.Prelude.{ℕ, ◌+◌, ◌-◌, ◌%◌, Bool, false, cond, eqb, List, length, get_or, Option, Some, None}
 use Rattle.bus_law.specs.declared.side.Answer.{Answer}
 use Rattle.bus_law.specs.declared.side.Turn.{Turn}
 use Rattle.bus_law.specs.declared.side.Turn.TheVariants.{Reset, Idle, Owed}

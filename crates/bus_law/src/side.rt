@@ -53,15 +53,14 @@ impl Side {
         ensures after { self.new ≡ side_after delays.now self.old given answer }
         ensures place { self.new.place < length delays.now }
     {
+        let delay = delays[self.place];
         match self.turn {
-            Turn::Reset => self.turn = Turn::Idle {
-                left: delays[self.place],
-            },
+            Turn::Reset => self.turn = Turn::Idle { left: delay },
             Turn::Idle { left } => {
                 if given {
                     self.turn = if left == 0 {
                         Turn::Owed {
-                            left: delays[self.place],
+                            left: delay,
                             answer,
                         }
                     } else {
