@@ -1,4 +1,5 @@
 pub mod Memory
+pub mod Lanes
 pub mod Protocol
 pub mod Honest
 pub mod Duties

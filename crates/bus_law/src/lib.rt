@@ -1,4 +1,9 @@
 //! Memory, the two buses of a core, and what the bus and the core owe each other.
 //!
-//! The crate holds definitions alone, over the signals of a bus by cycle. No circuit occurs in them.
+//! The definitions speak of the signals of a bus by cycle, and no circuit occurs in them. The code is one memory and
+//! the buses that answer over it.
 #![tactic(auto)]
+
+mod memory;
+
+pub use memory::Mem;
