@@ -66,7 +66,8 @@ impl TextHost {
 
     /// Counts a failure to read.
     fn fail_read(&mut self) -> HostFailed
-        ensures { self.new ≡ read_failed self.old }
+        ensures counted { self.new ≡ read_failed self.old }
+        ensures later { self.old.read_faults ≤ self.new.read_faults }
     {
         count_fault(&mut self.read_faults)
     }
