@@ -7,6 +7,7 @@ mod loops;
 mod memory;
 mod name;
 mod real;
+mod text;
 
 pub use host::{Host, HostFailed, Port};
 pub use list::List;
@@ -14,6 +15,7 @@ pub use loops::{ReadEnd, push_all, read_file};
 pub use memory::{MemFile, MemHost};
 pub use name::Name;
 pub use real::RealHost;
+pub use text::TextHost;
 
 #[cfg(test)]
 mod tests;

@@ -114,7 +114,7 @@ fn count_call(calls: &mut u64, fails: &Vec<u32>) -> bool
 }
 
 /// Counts a fault, up to the last `u64`.
-fn count_fault(faults: &mut u64) -> HostFailed
+pub(crate) fn count_fault(faults: &mut u64) -> HostFailed
     ensures { faults.new ≡ one_more faults.old }
 {
     *faults = faults.saturating_add(1);
@@ -175,7 +175,7 @@ fn pull_bytes(bytes: &[u8], taken: &mut usize, into: &mut [u8], bite: u32) -> us
 }
 
 /// Appends bytes from the front of `bytes`, unless the port is full.
-fn append(port: &mut Vec<u8>, room: u32, bite: u32, bytes: &[u8]) -> Option<usize>
+pub(crate) fn append(port: &mut Vec<u8>, room: u32, bite: u32, bytes: &[u8]) -> Option<usize>
     requires kept { room ≤ vec_capacity port.old }
     requires some { 0 < length bytes.now }
     ensures kept { room ≤ vec_capacity port.new }

@@ -1,4 +1,6 @@
-use crate::{Host, HostFailed, List, MemFile, MemHost, Name, Port, RealHost, push_all, read_file};
+use crate::{
+    Host, HostFailed, List, MemFile, MemHost, Name, Port, RealHost, TextHost, push_all, read_file,
+};
 use std::alloc::{AllocError, Global};
 use std::test::Fail;
 
@@ -76,5 +78,19 @@ fn real_host_finds_no_missing_file(rt: HostRuntime) -> Result<(), Fail> {
     let mut host = RealHost::new(alloc, rt, Vec::new(alloc), Vec::new(alloc));
     assert!(rt; host.find("no file of this name").is_err());
     push_all(&mut host, Port::Notes, b"note")?;
+    Ok(())
+}
+
+#[test]
+fn texts_have_room(rt: HostRuntime) -> Result<(), Fail> {
+    let mut host = TextHost::with_room(rt.alloc(), 5)?;
+    assert!(rt; host.find("a").is_err());
+    assert!(rt; host.pull(7, &mut [0; 4]).is_err());
+    assert_eq!(rt; host.push(Port::Main, b"abcd")?, 4);
+    assert_eq!(rt; host.push(Port::Main, b"ef")?, 1);
+    assert!(rt; host.push(Port::Main, b"f").is_err(), "the port is full");
+    push_all(&mut host, Port::Notes, b"notes")?;
+    assert_eq!(rt; host.pushed(Port::Main).as_slice(), b"abcde".as_slice());
+    assert_eq!(rt; host.pushed(Port::Notes).as_slice(), b"notes".as_slice());
     Ok(())
 }

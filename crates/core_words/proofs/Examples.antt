@@ -1,8 +1,9 @@
 -- Computed examples of the definitions.
-use Rattle.std.proofs.Common.{◌≡◌, true, false, codes, refl}
+use Rattle.std.proofs.Common.{◌≡◌, [], ◌∷◌, true, false, codes, refl}
 use Rattle.core_words.specs.Names.{same_name}
 use Rattle.core_words.specs.Values.{add_of, sub_of, not_of, bits_of, choose, join_of}
-use Rattle.core_words.specs.Fields.{rd_of, rs1_of, rs2_of, csr_of, extend, imm_i, imm_s, imm_b, imm_u, imm_j}
+use Rattle.core_words.specs.Fields.{rd_of, rs1_of, rs2_of, csr_of, extend, sext_of, imm_i, imm_s, imm_b, imm_u, imm_j}
+use Rattle.core_words.specs.Words.{word_from, le_bytes}
 
 same : same_name (codes "clk") (codes "clk") ≡ true
 same = refl
@@ -42,6 +43,18 @@ positive = refl
 
 negative : extend 12 0x800 ≡ 0xfffff800
 negative = refl
+
+high_bits_left_out : sext_of 0xfffff7ff 12 ≡ 0x7ff
+high_bits_left_out = refl
+
+whole_word : sext_of 0x80000000 32 ≡ 0x80000000
+whole_word = refl
+
+lowest_byte_first : le_bytes 0x89abcdef ≡ 0xef ∷ 0xcd ∷ 0xab ∷ 0x89 ∷ []
+lowest_byte_first = refl
+
+word_of_bytes : word_from (1 ∷ 0xef ∷ 0xcd ∷ 0xab ∷ 0x89 ∷ []) 1 ≡ 0x89abcdef
+word_of_bytes = refl
 
 -- addi x1, x0, 5
 rd_of_addi : rd_of 0x00500093 ≡ 1

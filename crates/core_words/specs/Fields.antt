@@ -1,5 +1,5 @@
 -- The fields of a 32-bit instruction word (RISC-V Unprivileged ISA 20191213, 2.2 and 2.3).
-use Rattle.std.specs.Prelude.{ℕ, ◌+◌, ◌-◌, ◌*◌, ◌^◌, cond, ltb}
+use Rattle.std.specs.Prelude.{ℕ, ◌+◌, ◌-◌, ◌*◌, ◌%◌, ◌^◌, cond, ltb}
 use Rattle.core_words.specs.Values.{bits_of}
 
 -- the number of the destination register
@@ -20,6 +20,10 @@ csr_of word = bits_of word 31 20
 -- a number of k bits, from 1 to 32, as 32 bits with the sign in its highest bit
 abbrev pub extend : (k v : ℕ) → ℕ
 extend k v = cond (ltb v (2 ^ (k - 1))) v (v + 2 ^ 32 - 2 ^ k)
+
+-- the same of the low bits of a number
+abbrev pub sext_of : (n width : ℕ) → ℕ
+sext_of n width = extend width (n % 2 ^ width)
 
 -- the immediate of each format, 32 bits with the sign in bit 31 of the word
 unfoldable pub imm_i : ℕ → ℕ

@@ -1,4 +1,13 @@
-//! Numbers of a width: the values of the operators, and the fields of an instruction word.
+//! Numbers of a width: the values of the operators, the fields of an instruction word, and words as bytes.
 //!
-//! The crate holds definitions alone. One function for each operator serves texts, nodes and instructions alike.
+//! One definition for each operator serves texts, nodes and instructions alike. The functions compute some of them.
 #![tactic(auto)]
+
+mod bytes;
+mod fields;
+
+pub use bytes::{put_le, word_le};
+pub use fields::{bits, mask_of, sext, wrap_add};
+
+#[cfg(test)]
+mod tests;
