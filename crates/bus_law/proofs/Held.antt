@@ -1,9 +1,9 @@
 -- The bytes of memory by place, and what a write leaves of the rules of a memory.
-use Rattle.std.proofs.Common.{◌≡◌, ℕ, suc, ◌+◌, ◌-◌, ◌*◌, ◌/◌, ◌%◌, ◌^◌, ◌<◌, ◌≤◌, Bool, true, false, cond, eqb, List, length, get_or, set, Option, Some, None, All, refl, sym, ap, ◌∙◌, arith}
+use Rattle.std.proofs.Common.{◌≡◌, ℕ, ◌+◌, ◌-◌, ◌*◌, ◌^◌, ◌<◌, Bool, true, false, cond, eqb, List, length, set, Some, None, All, refl, ◌∙◌, arith}
 use Rattle.std.proofs.lemmas.List.{length-set}
 use Rattle.std.proofs.lemmas.List.Elements.{All-set}
 use Rattle.core_words.specs.Values.{bits_of}
-use Rattle.bus_law.specs.Memory.{Memory, IsMemory, aligned_of, is_inside, word_at, written, byte_at, put_lane}
+use Rattle.bus_law.specs.Memory.{Memory, IsMemory, aligned_of, is_inside, word_at, written}
 use Rattle.bus_law.specs.Lanes.{lanes_at, lane_put, lanes_put}
 
 module _ (m : Memory) (a : ℕ) where

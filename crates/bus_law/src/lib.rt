@@ -4,6 +4,16 @@
 //! the buses that answer over it.
 #![tactic(auto)]
 
+mod answerer;
+mod laws;
 mod memory;
+mod side;
+mod signals;
 
+pub use answerer::Answerer;
+pub use laws::answers_are_honest;
 pub use memory::Mem;
+pub use signals::{BusIn, BusOut};
+
+#[cfg(test)]
+mod tests;
