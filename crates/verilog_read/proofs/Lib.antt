@@ -1,0 +1,6 @@
+pub mod Values
+pub mod Tokens
+pub mod Words
+pub mod Loop
+pub mod Fronts
+pub mod Whole

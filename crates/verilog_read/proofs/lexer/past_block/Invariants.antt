@@ -1,0 +1,9 @@
+use Rattle.std.proofs.Common.{◌≡◌, ◌≤◌, length}
+use Rattle.verilog_tree.specs.Blanks.{skipped, Block}
+use Rattle.verilog_read.proofs.lexer.past_block.Given as goal
+
+abbrev pub invariant-loop-rest : goal.invariant-loop-rest
+invariant-loop-rest l = (skipped Block l.fn.bytes ≡ skipped Block l.rest) × (length l.rest ≤ length l.fn.bytes)
+
+abbrev pub decreases-loop-rest : goal.decreases-loop-rest
+decreases-loop-rest l = length l.rest

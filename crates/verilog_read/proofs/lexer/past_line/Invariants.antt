@@ -1,0 +1,9 @@
+use Rattle.std.proofs.Common.{◌≡◌, ◌≤◌, length}
+use Rattle.verilog_tree.specs.Blanks.{skipped, Line}
+use Rattle.verilog_read.proofs.lexer.past_line.Given as goal
+
+abbrev pub invariant-loop-rest : goal.invariant-loop-rest
+invariant-loop-rest l = (skipped Line l.fn.bytes ≡ skipped Line l.rest) × (length l.rest ≤ length l.fn.bytes)
+
+abbrev pub decreases-loop-rest : goal.decreases-loop-rest
+decreases-loop-rest l = length l.rest
