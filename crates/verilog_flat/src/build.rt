@@ -38,6 +38,7 @@ impl Build {
         requires few { vec_len self.old.nodes < 2 ^ 32 }
         ensures number { IfOk result (λ at. at ≡ vec_len self.old.nodes) }
         ensures pushed { IfOk result (λ at. self.new.nodes.items ≡ self.old.nodes.items ++ (node ∷ [])) }
+        ensures grows { IfOk result (λ at. vec_len self.new.nodes ≡ vec_len self.old.nodes + 1) }
         ensures failed { IfErr result (λ e. self.new.nodes.items ≡ self.old.nodes.items) }
         ensures same { IsSameRoom self.new self.old }
     {

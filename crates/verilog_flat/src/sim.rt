@@ -75,6 +75,7 @@ impl FlatSim {
         requires ins { length ins.now ≡ self.old.ins }
         requires outs { vec_len outs.old ≡ vec_len self.old.outs }
         ensures outs { outs.new.items ≡ outputs self.old ins.now }
+        ensures room { vec_len outs.new ≡ vec_len outs.old }
         ensures regs { self.new.regs.items ≡ next_regs self.old ins.now }
         ensures cells { self.new.cells.items ≡ next_cells self.old ins.now }
         ensures same { IsSameCircuit self.new self.old }

@@ -1,3 +1,5 @@
+ghost use Rattle.std.specs.Prelude.{◌≡◌, IfOk, vec_len};
+
 use crate::{ArrayWrite, Build, FlatSim, Node};
 use std::alloc::{AllocError, Global};
 use std::test::Fail;
@@ -5,7 +7,9 @@ use std::test::Fail;
 /// A counter of 4 bits with a reset to 13, and an array of 4 cells that takes the counter's old value.
 ///
 /// Ports: `reset`, `enable`. Outputs: the counter, the cell that is written, and the join of both.
-fn counter(alloc: Global) -> Result<FlatSim, AllocError> {
+fn counter(alloc: Global) -> Result<FlatSim, AllocError>
+    ensures { IfOk result (λ sim. (vec_len sim.regs ≡ 1) × (vec_len sim.cells ≡ 4) × (sim.ins ≡ 2) × (vec_len sim.outs ≡ 3)) }
+{
     let mut build = Build::new(alloc, 1, 4, 2);
     let reset = build.push(Node::Input { port: 0 })?;
     let enable = build.push(Node::Input { port: 1 })?;
