@@ -1,0 +1,5 @@
+pub mod Grows
+pub mod Means
+pub mod Bound
+pub mod ViewIsPlain
+pub mod Examples
