@@ -3,3 +3,4 @@ pub mod View
 pub mod Flat
 pub mod Fine
 pub mod Means
+pub mod Wires

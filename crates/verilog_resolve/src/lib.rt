@@ -5,8 +5,12 @@
 //! them. `specs/Flat` says which nodes these are, `specs/Means` what it is that a node has a name's value.
 #![tactic(auto)]
 
+mod driver;
 mod expr;
 mod names;
+mod wires;
 
+pub use driver::WireDriver;
 pub use expr::{Operand, bind_wire, flatten};
 pub use names::{Names, Place};
+pub use wires::bind_wires;
