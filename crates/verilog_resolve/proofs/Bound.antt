@@ -25,7 +25,7 @@ module _ (regs cells ins : List ℕ) (w : List ℕ → ℕ) (arrays : List ℕ �
         | inr s ↦ subst (λ u. Matches regs cells ins w arrays val g.nodes y u) (sym s) (keep_place regs cells ins w arrays val ns g.nodes y (p y) i.longer i.keeps (m y))
       ]
 
-split_on : (b : Bool) → (b ≡ true) ⊎ (b ≡ false)
+pub split_on : (b : Bool) → (b ≡ true) ⊎ (b ≡ false)
 split_on true = inl refl
 split_on false = inr refl
 

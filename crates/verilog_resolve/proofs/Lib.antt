@@ -6,3 +6,5 @@ pub mod Examples
 pub mod Split
 pub mod Known
 pub mod Driven
+pub mod OwnNode
+pub mod Restarts

@@ -8,9 +8,13 @@
 mod driver;
 mod expr;
 mod names;
+mod next;
+mod source;
 mod wires;
 
 pub use driver::WireDriver;
 pub use expr::{Operand, bind_wire, flatten};
 pub use names::{Names, Place};
+pub use next::push_restart;
+pub use source::bind_node;
 pub use wires::bind_wires;
