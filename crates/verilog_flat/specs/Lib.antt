@@ -1,0 +1,5 @@
+pub mod Flat
+pub mod Writes
+pub mod Props
+pub mod Builds
+pub mod Cycle
