@@ -5,6 +5,7 @@ pub mod Cycle
 pub mod Run
 pub mod CorePorts
 pub mod Declarations
+pub mod Collected
 pub mod Names
 pub mod Kinds
 pub mod Widths

@@ -1,0 +1,3 @@
+//! The checker of sound trees.
+
+pub mod declare;
