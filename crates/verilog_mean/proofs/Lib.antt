@@ -1,3 +1,4 @@
+pub mod Keys
 pub mod SoundExamples
 pub mod Ordered
 pub mod Driven

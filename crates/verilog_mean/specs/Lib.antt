@@ -7,6 +7,7 @@ pub mod CorePorts
 pub mod Declarations
 pub mod Collected
 pub mod Names
+pub mod SameNames
 pub mod Kinds
 pub mod Widths
 pub mod Drivers

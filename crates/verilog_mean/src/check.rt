@@ -1,3 +1,4 @@
 //! The checker of sound trees.
 
 pub mod declare;
+pub mod names;
