@@ -1,4 +1,6 @@
 pub mod Keys
+pub mod First
+pub mod Tables
 pub mod SoundExamples
 pub mod Ordered
 pub mod Driven

@@ -8,6 +8,7 @@ pub mod Declarations
 pub mod Collected
 pub mod Names
 pub mod SameNames
+pub mod First
 pub mod Kinds
 pub mod Widths
 pub mod Drivers

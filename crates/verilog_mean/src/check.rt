@@ -1,4 +1,7 @@
 //! The checker of sound trees.
 
 pub mod declare;
+pub mod drivers;
 pub mod names;
+pub mod once;
+pub mod table;

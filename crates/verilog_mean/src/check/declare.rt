@@ -10,13 +10,9 @@ use verilog_tree::{Ident, Item, Pair, PortDecl, Tree};
 pub enum Class {
     Input,
     Output,
-    Wired {
-        inline: bool,
-    },
+    Wired { inline: bool },
     Register,
-    Array {
-        cells: Pair,
-    },
+    Array { cells: Pair },
 }
 
 /// A declaration without its name.
@@ -36,7 +32,11 @@ pub struct Declared<'a> {
 fn of_port(port: &PortDecl) -> Declared<'_>
     ensures { declaration result ≡ port_declaration port.now }
 {
-    let class = if port.input { Class::Input } else { Class::Output };
+    let class = if port.input {
+        Class::Input
+    } else {
+        Class::Output
+    };
     Declared {
         name: &port.name,
         shape: Shape {
@@ -50,11 +50,21 @@ fn of_item(item: &Item) -> Option<Declared<'_>>
     ensures { maybe_declaration result ≡ item_declaration item.now }
 {
     let (name, range, class) = match item {
-        Item::Wire { range, name, driver, .. } => {
+        Item::Wire {
+            range,
+            name,
+            driver,
+            ..
+        } => {
             let inline = driver.is_some();
             (name, *range, Class::Wired { inline })
         }
-        Item::Reg { range, name, cells, .. } => match cells {
+        Item::Reg {
+            range,
+            name,
+            cells,
+            ..
+        } => match cells {
             Some(cells) => (name, *range, Class::Array { cells: *cells }),
             None => (name, *range, Class::Register),
         },
