@@ -6,9 +6,10 @@ use Rattle.verilog_tree.specs.declared.tree.Item.{Item}
 use Rattle.verilog_mean.specs.declared.check.declare.Declared.{Declared}
 use Rattle.core_words.specs.Names.{same_name}
 use Rattle.verilog_tree.specs.declared.expr.Ident.{Ident}
+use Rattle.verilog_mean.specs.declared.MeanRefusal.{MeanRefusal}
 use Rattle.verilog_mean.specs.declared.MeanRefusal.TheVariants.{NameTwice, DriverTwice, DriverMissing}
 use Rattle.verilog_mean.specs.Look.{put, put_if}
-use Rattle.verilog_mean.specs.Names.{is_among, repeated}
+use Rattle.verilog_mean.specs.Names.{is_among, repeated, Refusals}
 use Rattle.verilog_mean.specs.Declarations.{Declaration}
 use Rattle.verilog_mean.specs.Drivers.{driven_again, undriven, wants_driver, texts_of, targets, item_target}
 use Rattle.verilog_mean.specs.Collected.{names_of, declaration}
@@ -119,3 +120,23 @@ driven_skip items i item old e t u v =
 pub undriven_same : (ms ns : List (List ℕ)) → SameNames ms ns → (ds : List Declaration) → undriven ms ds ≡ undriven ns ds
 undriven_same ms ns h [] = refl
 undriven_same ms ns h (d ∷ ds) = λ i. put_if (wants_driver d.class && not (h.same d.name.text i)) (DriverMissing d.name.at) (undriven_same ms ns h ds i)
+
+-- ---- the first of two lists
+
+pub first_none : (xs ys : Refusals) → None ≡ first xs → first (xs ++ ys) ≡ first ys
+first_none [] ys h = refl
+first_none (x ∷ xs) ys h = cc
+
+pub first_some : (xs ys : Refusals) (x : MeanRefusal) → Some x ≡ first xs → first (xs ++ ys) ≡ Some x
+first_some [] ys x h = cc
+first_some (y ∷ xs) ys x h = cc
+
+pub put_none : (b : Bool) (r : MeanRefusal) (rest : Refusals) → None ≡ first (put_if b r []) → put_if b r rest ≡ rest
+put_none true r rest h = cc
+put_none false r rest h = refl
+
+pub put_some : (b : Bool) (r x : MeanRefusal) (rest : Refusals) → Some x ≡ first (put_if b r []) → first (put_if b r rest) ≡ Some x
+put_some true r x rest h = sym h
+put_some false r x rest h = cc
+
+pub ruleset firsts = (first_none, first_some, put_none, put_some)

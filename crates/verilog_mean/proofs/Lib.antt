@@ -1,4 +1,7 @@
 pub mod Keys
+pub mod Rows
+pub mod Unknowns
+pub mod Sizes
 pub mod First
 pub mod Tables
 pub mod SoundExamples

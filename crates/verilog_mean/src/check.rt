@@ -2,6 +2,8 @@
 
 pub mod declare;
 pub mod drivers;
+pub mod known;
 pub mod names;
 pub mod once;
+pub mod sizes;
 pub mod table;
