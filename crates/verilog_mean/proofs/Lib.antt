@@ -1,4 +1,7 @@
 pub mod Keys
+pub mod KnownItems
+pub mod KindForms
+pub mod Uses
 pub mod Rows
 pub mod Unknowns
 pub mod Sizes

@@ -1,14 +1,18 @@
 -- The third rule at each form of an expression that code makes.
-use Rattle.std.proofs.Common.{◌≡◌, ℕ, List, [], ◌++◌, ◌∙◌, sym, refl, ap}
+use Rattle.std.proofs.Common.{◌≡◌, ℕ, List, [], ◌++◌, Option, Some, None, ◌∙◌, sym, refl, ap}
 use Rattle.verilog_tree.specs.declared.expr.BinSign.{BinSign}
 use Rattle.verilog_tree.specs.declared.expr.Ident.{Ident}
 use Rattle.verilog_tree.specs.declared.expr.Lit.{Lit}
 use Rattle.verilog_tree.specs.declared.expr.Pair.{Pair}
 use Rattle.verilog_tree.specs.declared.expr.Expr.{Expr, Row_of-Expr, end_of-Expr, more_of-Expr, items-the_row-Expr}
 use Rattle.verilog_tree.specs.declared.expr.Expr.TheVariants.{Literal, Named, Select, Cell, Paren, Not, Join, Binary, Choice}
+use Rattle.verilog_tree.specs.declared.tree.Driver.{Driver}
+use Rattle.verilog_tree.specs.declared.tree.Stmt as tree_stmt
+use Rattle.verilog_tree.specs.declared.tree.Stmt.TheVariants as stmt
+use Rattle.verilog_tree.specs.declared.tree.Item.TheVariants as item
 use Rattle.verilog_tree.proofs.Made.{made_cell, made_paren, made_not, made_binary, made_choice, made_join}
 use Rattle.verilog_mean.specs.Names.{unknown_in, unknown_in_parts, unknown_name}
-use Rattle.verilog_mean.specs.Shut.{unknown_names}
+use Rattle.verilog_mean.specs.Shut.{unknown_names, unknown_by_stmt, unknown_by_item}
 use Rattle.verilog_mean.specs.First.{in_each}
 use Rattle.verilog_mean.proofs.Rows.{row_of}
 
@@ -58,3 +62,44 @@ unknown-Join known at es =
     ∙ ap (in_each (unknown_in known)) r.items
 
 pub ruleset unknowns = (unknown-Literal, unknown-Named, unknown-Select, unknown-Cell, unknown-Paren, unknown-Not, unknown-Binary, unknown-Choice, unknown-Join)
+
+-- ---- statements and items
+
+pub unknown-Next : (known : List (List ℕ)) (target : Ident) (d : Driver) → unknown_by_stmt known (stmt.Next target d) ≡ unknown_name known target (unknown_names known d.value)
+unfolding unknown_names unknown_by_stmt
+unknown-Next known target d = refl
+
+pub unknown-Reset : (known : List (List ℕ)) (at : ℕ) (first : Ident) (sign : ℕ) (start : Lit) (target : Ident) (d : Driver)
+    → unknown_by_stmt known (stmt.Reset at first sign start target d) ≡ unknown_name known first (unknown_name known target (unknown_names known d.value))
+unfolding unknown_names unknown_by_stmt
+unknown-Reset known at first sign start target d = refl
+
+pub unknown-Write : (known : List (List ℕ)) (at paren : ℕ) (enable : Expr) (target : Ident) (bracket : ℕ) (index : Expr) (d : Driver)
+    → unknown_by_stmt known (stmt.Write at paren enable target bracket index d)
+    ≡ unknown_names known enable ++ unknown_name known target (unknown_names known index ++ unknown_names known d.value)
+unfolding unknown_names unknown_by_stmt
+unknown-Write known at paren enable target bracket index d = refl
+
+pub unknown-Wire : (known : List (List ℕ)) (at : ℕ) (range : Option Pair) (name : Ident) (d : Driver)
+    → unknown_by_item known (item.Wire at range name (Some d)) ≡ unknown_names known d.value
+unfolding unknown_names unknown_by_item
+unknown-Wire known at range name d = refl
+
+pub unknown-open : (known : List (List ℕ)) (at : ℕ) (range : Option Pair) (name : Ident) → unknown_by_item known (item.Wire at range name None) ≡ []
+unfolding unknown_by_item
+unknown-open known at range name = refl
+
+pub unknown-Reg : (known : List (List ℕ)) (at : ℕ) (range : Option Pair) (name : Ident) (cells : Option Pair) → unknown_by_item known (item.Reg at range name cells) ≡ []
+unfolding unknown_by_item
+unknown-Reg known at range name cells = refl
+
+pub unknown-Assign : (known : List (List ℕ)) (at : ℕ) (target : Ident) (d : Driver)
+    → unknown_by_item known (item.Assign at target d) ≡ unknown_name known target (unknown_names known d.value)
+unfolding unknown_names unknown_by_item
+unknown-Assign known at target d = refl
+
+pub unknown-Always : (known : List (List ℕ)) (at : ℕ) (s : tree_stmt.Stmt) → unknown_by_item known (item.Always at s) ≡ unknown_by_stmt known s
+unfolding unknown_by_item unknown_by_stmt
+unknown-Always known at s = refl
+
+pub ruleset unknown_items = (unknown-Next, unknown-Reset, unknown-Write, unknown-Wire, unknown-open, unknown-Reg, unknown-Assign, unknown-Always)

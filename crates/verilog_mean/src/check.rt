@@ -2,6 +2,7 @@
 
 pub mod declare;
 pub mod drivers;
+pub mod kinds;
 pub mod known;
 pub mod names;
 pub mod once;

@@ -1,11 +1,14 @@
-ghost use Rattle.std.specs.Prelude.{◌≡◌, []};
-ghost use Rattle.verilog_mean.specs.Names.{unknown_name};
-ghost use Rattle.verilog_mean.specs.Shut.{unknown_names};
-ghost use Rattle.verilog_mean.specs.First.{first};
+ghost use Rattle.std.specs.Prelude.{◌≡◌, [], IfOk, IfErr, OnOk};
+ghost use Rattle.verilog_mean.specs.Names.{unknown_name, unknown_in_items, known_after};
+ghost use Rattle.verilog_mean.specs.Declarations.{item_declaration};
+ghost use Rattle.verilog_mean.specs.SameNames.{SameNames};
+ghost use Rattle.verilog_mean.specs.Shut.{unknown_names, unknown_by_stmt, unknown_by_item};
+ghost use Rattle.verilog_mean.specs.First.{first, Refuses};
 
 use crate::MeanRefusal;
 use crate::check::names::Names;
-use verilog_tree::{Expr, Ident};
+use std::alloc::AllocError;
+use verilog_tree::{Expr, Ident, Item, Stmt};
 
 /// A name that is not known.
 fn in_name(name: &Ident, known: &Names) -> Option<MeanRefusal>
@@ -53,4 +56,81 @@ pub fn in_expr(e: &Expr, known: &Names) -> Option<MeanRefusal>
             },
         },
     }
+}
+
+#[tactic(auto, using(crate::proofs::First::firsts, crate::proofs::Unknowns::unknown_items))]
+fn in_stmt(stmt: &Stmt, known: &Names) -> Option<MeanRefusal>
+    ensures { result ≡ first (unknown_by_stmt known.now stmt.now) }
+{
+    match stmt {
+        Stmt::Next { target, driver } => match in_name(target, known) {
+            Some(refusal) => Some(refusal),
+            None => in_expr(&driver.value, known),
+        },
+        Stmt::Reset { first, target, driver, .. } => match in_name(first, known) {
+            Some(refusal) => Some(refusal),
+            None => match in_name(target, known) {
+                Some(refusal) => Some(refusal),
+                None => in_expr(&driver.value, known),
+            },
+        },
+        Stmt::Write { enable, target, index, driver, .. } => match in_expr(enable, known) {
+            Some(refusal) => Some(refusal),
+            None => match in_name(target, known) {
+                Some(refusal) => Some(refusal),
+                None => match in_expr(index, known) {
+                    Some(refusal) => Some(refusal),
+                    None => in_expr(&driver.value, known),
+                },
+            },
+        },
+    }
+}
+
+/// The first name of an item that is not known.
+#[tactic(auto, using(crate::proofs::First::firsts, crate::proofs::Unknowns::unknown_items))]
+fn in_item(item: &Item, known: &Names) -> Option<MeanRefusal>
+    ensures { result ≡ first (unknown_by_item known.now item.now) }
+{
+    match item {
+        Item::Wire { driver, .. } => match driver {
+            Some(driver) => in_expr(&driver.value, known),
+            None => None,
+        },
+        Item::Reg { .. } => None,
+        Item::Assign { target, driver, .. } => match in_name(target, known) {
+            Some(refusal) => Some(refusal),
+            None => in_expr(&driver.value, known),
+        },
+        Item::Always { stmt, .. } => in_stmt(stmt, known),
+    }
+}
+
+/// Makes the name that an item declares known.
+fn learn<'a>(item: &'a Item, known: &mut Names<'a>) -> Result<(), AllocError>
+    ensures { OnOk result (SameNames known.new (known_after known.old (item_declaration item.now))) }
+{
+    match item {
+        Item::Wire { name, .. } => known.add(&name.text),
+        Item::Reg { name, .. } => known.add(&name.text),
+        _ => Ok(()),
+    }
+}
+
+/// Third rule: each item uses names that are declared before it, or that it declares itself.
+pub fn in_items<'a>(items: &'a [Item], known: &mut Names<'a>) -> Result<(), MeanRefusal>
+    ensures sound { IfOk result (λ _. unknown_in_items known.old items.now ≡ []) }
+    ensures refused { IfErr result (λ r. Refuses r (unknown_in_items known.old items.now)) }
+{
+    for item in items {
+        match learn(item, known) {
+            Ok(()) => {}
+            Err(_) => return Err(MeanRefusal::NoMemory),
+        }
+        match in_item(item, known) {
+            Some(refusal) => return Err(refusal),
+            None => {}
+        }
+    }
+    Ok(())
 }
