@@ -1,4 +1,7 @@
 pub mod Keys
+pub mod SelectForms
+pub mod Narrows
+pub mod Ports
 pub mod KnownItems
 pub mod KindForms
 pub mod Uses

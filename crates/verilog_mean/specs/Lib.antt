@@ -9,6 +9,7 @@ pub mod Collected
 pub mod Names
 pub mod SameNames
 pub mod First
+pub mod Narrow
 pub mod Shut
 pub mod Uses
 pub mod Kinds

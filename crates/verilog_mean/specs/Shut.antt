@@ -7,7 +7,7 @@ use Rattle.verilog_tree.specs.declared.tree.Item.TheVariants as item
 use Rattle.verilog_mean.specs.Names.{unknown_in, unknown_in_driver, unknown_in_stmt, unknown_name, Refusals}
 use Rattle.verilog_mean.specs.Declarations.{Declaration}
 use Rattle.verilog_mean.specs.Kinds.{kinds_in, kinds_in_stmt, kinds_in_item}
-use Rattle.verilog_mean.specs.Widths.{selects_in}
+use Rattle.verilog_mean.specs.Widths.{selects_in, selects_in_stmt, selects_in_item}
 
 unfoldable pub unknown_names : (known : List (List ℕ)) → Expr → Refusals
 unknown_names known e = unknown_in known e
@@ -33,3 +33,9 @@ kinds_by_stmt ds s = kinds_in_stmt ds s
 
 unfoldable pub kinds_by_item : List Declaration → tree_item.Item → Refusals
 kinds_by_item ds i = kinds_in_item ds i
+
+unfoldable pub selects_by_stmt : List Declaration → tree_stmt.Stmt → Refusals
+selects_by_stmt ds s = selects_in_stmt ds s
+
+unfoldable pub selects_by_item : List Declaration → tree_item.Item → Refusals
+selects_by_item ds i = selects_in_item ds i

@@ -6,5 +6,7 @@ pub mod kinds;
 pub mod known;
 pub mod names;
 pub mod once;
+pub mod ports;
+pub mod selects;
 pub mod sizes;
 pub mod table;
