@@ -73,10 +73,10 @@ items_same ms ns h (i ∷ is) =
     let k = after_same ms ns h (item_declaration i) in
     let here : unknown_in_item ms i ≡ unknown_in_item ns i = by_item ms i ∙ item_same (known_after ms (item_declaration i)) (known_after ns (item_declaration i)) k i ∙ sym (by_item ns i) in
     let later : unknown_in_items (known_after ms (item_declaration i)) is ≡ unknown_in_items (known_after ns (item_declaration i)) is =
-          items_same (known_after ms (item_declaration i)) (known_after ns (item_declaration i)) k is in
+    items_same (known_after ms (item_declaration i)) (known_after ns (item_declaration i)) k is in
     λ j. here j ++ later j
 
-none_is : (rs : Refusals) → None ≡ first rs → rs ≡ []
+pub none_is : (rs : Refusals) → None ≡ first rs → rs ≡ []
 none_is [] h = refl
 none_is (r ∷ rs) h = cc
 

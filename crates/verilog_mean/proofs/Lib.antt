@@ -1,4 +1,5 @@
 pub mod Keys
+pub mod Rules
 pub mod SelectForms
 pub mod Narrows
 pub mod Ports

@@ -7,6 +7,7 @@ pub mod known;
 pub mod names;
 pub mod once;
 pub mod ports;
+pub mod rules;
 pub mod selects;
 pub mod sizes;
 pub mod table;

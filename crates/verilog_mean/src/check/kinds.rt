@@ -148,14 +148,25 @@ fn in_stmt(stmt: &Stmt, table: &Table) -> Option<MeanRefusal>
             Some(refusal) => Some(refusal),
             None => in_expr(&driver.value, table),
         },
-        Stmt::Reset { first, target, driver, .. } => match in_target(Use::Stored, first, table) {
+        Stmt::Reset {
+            first,
+            target,
+            driver,
+            ..
+        } => match in_target(Use::Stored, first, table) {
             Some(refusal) => Some(refusal),
             None => match in_second(first, target, table) {
                 Some(refusal) => Some(refusal),
                 None => in_expr(&driver.value, table),
             },
         },
-        Stmt::Write { enable, target, index, driver, .. } => match in_expr(enable, table) {
+        Stmt::Write {
+            enable,
+            target,
+            index,
+            driver,
+            ..
+        } => match in_expr(enable, table) {
             Some(refusal) => Some(refusal),
             None => match in_target(Use::Indexed, target, table) {
                 Some(refusal) => Some(refusal),

@@ -67,14 +67,25 @@ fn in_stmt(stmt: &Stmt, known: &Names) -> Option<MeanRefusal>
             Some(refusal) => Some(refusal),
             None => in_expr(&driver.value, known),
         },
-        Stmt::Reset { first, target, driver, .. } => match in_name(first, known) {
+        Stmt::Reset {
+            first,
+            target,
+            driver,
+            ..
+        } => match in_name(first, known) {
             Some(refusal) => Some(refusal),
             None => match in_name(target, known) {
                 Some(refusal) => Some(refusal),
                 None => in_expr(&driver.value, known),
             },
         },
-        Stmt::Write { enable, target, index, driver, .. } => match in_expr(enable, known) {
+        Stmt::Write {
+            enable,
+            target,
+            index,
+            driver,
+            ..
+        } => match in_expr(enable, known) {
             Some(refusal) => Some(refusal),
             None => match in_name(target, known) {
                 Some(refusal) => Some(refusal),

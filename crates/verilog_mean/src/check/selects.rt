@@ -86,7 +86,12 @@ fn in_stmt(stmt: &Stmt, table: &Table) -> Option<MeanRefusal>
     match stmt {
         Stmt::Next { driver, .. } => in_expr(&driver.value, table),
         Stmt::Reset { driver, .. } => in_expr(&driver.value, table),
-        Stmt::Write { enable, index, driver, .. } => match in_expr(enable, table) {
+        Stmt::Write {
+            enable,
+            index,
+            driver,
+            ..
+        } => match in_expr(enable, table) {
             Some(refusal) => Some(refusal),
             None => match in_expr(index, table) {
                 Some(refusal) => Some(refusal),
