@@ -1,4 +1,5 @@
 pub mod Keys
+pub mod Refused
 pub mod Rules
 pub mod SelectForms
 pub mod Narrows

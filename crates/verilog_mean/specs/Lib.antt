@@ -10,6 +10,7 @@ pub mod Names
 pub mod SameNames
 pub mod First
 pub mod Narrow
+pub mod Passes
 pub mod Shut
 pub mod Uses
 pub mod Kinds

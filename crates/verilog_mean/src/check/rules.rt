@@ -5,11 +5,13 @@ ghost use Rattle.verilog_mean.specs.Names.{names_twice, bad_sizes};
 ghost use Rattle.verilog_mean.specs.Kinds.{kinds_differ};
 ghost use Rattle.verilog_mean.specs.Widths.{selects_outside};
 ghost use Rattle.verilog_mean.specs.Drivers.{drivers_twice, drivers_missing};
+ghost use Rattle.verilog_mean.specs.Passes.{Passes, IsRefused};
 ghost use Rattle.verilog_mean.specs.First.{first, Refuses};
 
 use crate::MeanRefusal;
 use crate::check::declare::{Declared, collect};
 use crate::check::once::table_of;
+use crate::check::ports::names_unknown;
 use crate::check::table::Table;
 use crate::check::{drivers, kinds, selects, sizes};
 use std::alloc::Global;
@@ -82,4 +84,33 @@ pub fn drivers(alloc: Global, tree: &Tree, all: &[Declared]) -> Result<(), MeanR
         Some(refusal) => Err(refusal),
         None => Ok(()),
     }
+}
+
+/// The first refusal of the rules, but for those on widths and loops.
+#[tactic(auto, using(crate::proofs::Refused::refused))]
+pub fn check_rules(alloc: Global, tree: &Tree) -> Result<(), MeanRefusal>
+    ensures sound { IfOk result (λ _. Passes tree.now) }
+    ensures refused { IfErr result (λ r. IsRefused r tree.now) }
+{
+    let found = match declare(alloc, tree) {
+        Ok(found) => found,
+        Err(refusal) => return Err(refusal),
+    };
+    match bad_sizes(tree, found.all.as_slice()) {
+        Some(refusal) => return Err(refusal),
+        None => {}
+    }
+    match names_unknown(alloc, tree) {
+        Ok(()) => {}
+        Err(refusal) => return Err(refusal),
+    }
+    match kinds_differ(tree, &found.table) {
+        Some(refusal) => return Err(refusal),
+        None => {}
+    }
+    match selects_outside(tree, &found.table) {
+        Some(refusal) => return Err(refusal),
+        None => {}
+    }
+    drivers(alloc, tree, found.all.as_slice())
 }
