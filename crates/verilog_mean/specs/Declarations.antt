@@ -7,16 +7,10 @@ use Rattle.verilog_tree.specs.declared.tree.PortDecl.{PortDecl}
 use Rattle.verilog_tree.specs.declared.tree.Item as tree_item
 use Rattle.verilog_tree.specs.declared.tree.Item.TheVariants as item
 use Rattle.verilog_tree.specs.declared.tree.Tree.{Tree}
+use Rattle.verilog_mean.specs.declared.check.declare.Class.{Class}
+use Rattle.verilog_mean.specs.declared.check.declare.Class.TheVariants.{Input, Output, Wired, Register, Array}
 use Rattle.verilog_mean.specs.Look.{look, put}
 use Rattle.verilog_mean.specs.Erase.{range_width}
-
--- a wire is `inline` where its declaration has its driver
-pub data Class : Type 0 where
-  Input : Class
-  Output : Class
-  Wired : (inline : Bool) → Class
-  Register : Class
-  Array : (cells : Pair) → Class
 
 pub record Declaration : Type 0 where
   pub name : Ident

@@ -5,7 +5,14 @@ pub mod Cycle
 pub mod Run
 pub mod CorePorts
 pub mod Declarations
+pub mod Collected
 pub mod Names
+pub mod SameNames
+pub mod First
+pub mod Narrow
+pub mod Passes
+pub mod Shut
+pub mod Uses
 pub mod Kinds
 pub mod Widths
 pub mod Drivers

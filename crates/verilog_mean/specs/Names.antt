@@ -17,8 +17,9 @@ use Rattle.verilog_mean.specs.declared.MeanRefusal.{MeanRefusal}
 use Rattle.verilog_mean.specs.declared.MeanRefusal.TheVariants.{NameTwice, BadSize, NameUnknown}
 use Rattle.verilog_mean.specs.Look.{put_if}
 use Rattle.verilog_mean.specs.Erase.{range_width}
-use Rattle.verilog_mean.specs.Declarations.{Class, Declaration, declarations, item_declaration, index_width}
-use Rattle.verilog_mean.specs.Declarations.Class.{Input, Output, Wired, Register, Array}
+use Rattle.verilog_mean.specs.declared.check.declare.Class.{Class}
+use Rattle.verilog_mean.specs.Declarations.{Declaration, declarations, item_declaration, index_width}
+use Rattle.verilog_mean.specs.declared.check.declare.Class.TheVariants.{Input, Output, Wired, Register, Array}
 
 abbrev pub Refusals : Type 0
 Refusals = List MeanRefusal

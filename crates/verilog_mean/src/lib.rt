@@ -5,6 +5,8 @@
 //! Cycles are defined on the module without its places (`specs/Plain`), by following names.
 #![tactic(auto)]
 
+mod check;
+
 use thiserror::Error;
 
 /// Why a tree is not sound: a rule of soundness that fails, at a place of the text (an offset of a byte).
