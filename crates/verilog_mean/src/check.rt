@@ -1,4 +1,4 @@
-//! The checker of sound trees.
+//! The checker of sound trees. So far it tries the rules but for the sixth, on widths, and the ninth, on loops.
 
 pub mod declare;
 pub mod drivers;

@@ -7,6 +7,7 @@
 
 mod check;
 
+pub use check::rules::check_rules;
 use thiserror::Error;
 
 /// Why a tree is not sound: a rule of soundness that fails, at a place of the text (an offset of a byte).
