@@ -7,7 +7,7 @@ use Rattle.verilog_mean.specs.Plain.Exprs.{NoPart, Part}
 use Rattle.verilog_mean.specs.Cycle.{State, Source, width_in, width_of, width_of_parts, sign_value, eval, eval_parts, source_of, from_source, value_to, value}
 use Rattle.verilog_mean.specs.Cycle.Source.{Nowhere, Outside, Held, Driven}
 use Rattle.verilog_mean.specs.Loops.{Mentions, MentionsPart}
-use Rattle.verilog_mean.proofs.Ordered.{IsRanked}
+use Rattle.verilog_mean.specs.Order.{IsRanked}
 
 -- the value of an expression depends on the values of its names alone
 module _ (w : List ℕ → ℕ) (cells : List ℕ → List ℕ) (f g : List ℕ → ℕ) where

@@ -1,17 +1,3 @@
-pub mod Keys
-pub mod Refused
-pub mod Rules
-pub mod SelectForms
-pub mod Narrows
-pub mod Ports
-pub mod KnownItems
-pub mod KindForms
-pub mod Uses
-pub mod Rows
-pub mod Unknowns
-pub mod Sizes
-pub mod First
-pub mod Tables
 pub mod SoundExamples
 pub mod Ordered
 pub mod Driven

@@ -3,7 +3,8 @@ use Rattle.std.proofs.Common.{◌≡◌, ℕ, ◌<◌, true, List, arith}
 use Rattle.verilog_mean.specs.Plain.{Plain}
 use Rattle.verilog_mean.specs.Loops.{Depends, HasNoLoop}
 use Rattle.verilog_mean.specs.Loops.Depends.{direct, further}
-use Rattle.verilog_mean.proofs.Ordered.{IsRanked, ordered, rank_of, ordered_is_ranked}
+use Rattle.verilog_mean.specs.Order.{IsRanked}
+use Rattle.verilog_mean.proofs.Ordered.{ordered, rank_of, ordered_is_ranked}
 
 falls : (m : Plain) (rank : List ℕ → ℕ) → IsRanked m rank → {x y : List ℕ} → Depends m x y → rank y < rank x
 falls m rank ranked (direct {x = x} {y = y} {e = e} d q) = ranked.lower x y e d q

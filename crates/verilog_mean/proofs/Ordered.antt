@@ -12,13 +12,7 @@ use Rattle.verilog_mean.specs.Plain.Port.{In, Out}
 use Rattle.verilog_mean.specs.Cycle.{Source, item_source, port_source, source_of}
 use Rattle.verilog_mean.specs.Cycle.Source.{Nowhere, Outside, Held, Driven}
 use Rattle.verilog_mean.specs.Loops.{Mentions, MentionsPart}
-
--- ---- what is shown
-
--- a rank of names: what a driver names is of a smaller rank, and no rank is above the number of the items
-pub record IsRanked (m : Plain) (rank : List ℕ → ℕ) : Type 0 where
-  pub lower : (x y : List ℕ) (e : Expr) → source_of m x ≡ Driven e → Mentions e y → rank y < rank x
-  pub small : (x : List ℕ) → rank x ≤ length m.items
+use Rattle.verilog_mean.specs.Order.{IsRanked}
 
 -- ---- the test
 

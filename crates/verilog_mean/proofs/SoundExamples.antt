@@ -9,7 +9,7 @@ use Rattle.verilog_tree.specs.Parse.{parse, goes_on, operation, choice, selectio
 use Rattle.verilog_tree.specs.Read.{read_text, module_of, pair, range, expr, driver, driven, optional_wire, port_of, port, ports, wire, reg, assign, next_value, reset_behind, write_behind, conditional, stmt, always, item, items}
 use Rattle.verilog_tree.specs.declared.expr.Expr.TheBlock.{shape-the_row-Expr-0, hidden-the_row-Expr-0, shape-the_row-Expr-1, hidden-the_row-Expr-1}
 use denote.Hole.Carrier.{hidden}
-use Rattle.verilog_mean.specs.declared.MeanRefusal.TheVariants.{NameTwice, BadSize, NameUnknown, KindDiffers, SelectOutside, WidthDiffers, DriverTwice, DriverMissing}
+use Rattle.verilog_mean.specs.declared.refusal.MeanRefusal.TheVariants.{NameTwice, BadSize, NameUnknown, KindDiffers, SelectOutside, WidthDiffers, DriverTwice, DriverMissing}
 use Rattle.verilog_mean.specs.Names.{Refusals, names_twice, bad_sizes, names_unknown}
 use Rattle.verilog_mean.specs.Kinds.{kinds_differ}
 use Rattle.verilog_mean.specs.Widths.{selects_outside, widths_differ}

@@ -7,8 +7,8 @@ use Rattle.verilog_tree.specs.declared.tree.PortDecl.{PortDecl}
 use Rattle.verilog_tree.specs.declared.tree.Item as tree_item
 use Rattle.verilog_tree.specs.declared.tree.Item.TheVariants as item
 use Rattle.verilog_tree.specs.declared.tree.Tree.{Tree}
-use Rattle.verilog_mean.specs.declared.check.declare.Class.{Class}
-use Rattle.verilog_mean.specs.declared.check.declare.Class.TheVariants.{Input, Output, Wired, Register, Array}
+use Rattle.verilog_mean.specs.declared.class.Class.{Class}
+use Rattle.verilog_mean.specs.declared.class.Class.TheVariants.{Input, Output, Wired, Register, Array}
 use Rattle.verilog_mean.specs.Look.{look, put}
 use Rattle.verilog_mean.specs.Erase.{range_width}
 

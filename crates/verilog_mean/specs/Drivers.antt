@@ -7,11 +7,11 @@ use Rattle.verilog_tree.specs.declared.tree.Stmt.TheVariants as stmt
 use Rattle.verilog_tree.specs.declared.tree.Item as tree_item
 use Rattle.verilog_tree.specs.declared.tree.Item.TheVariants as item
 use Rattle.verilog_tree.specs.declared.tree.Tree.{Tree}
-use Rattle.verilog_mean.specs.declared.MeanRefusal.TheVariants.{DriverTwice, DriverMissing}
+use Rattle.verilog_mean.specs.declared.refusal.MeanRefusal.TheVariants.{DriverTwice, DriverMissing}
 use Rattle.verilog_mean.specs.Look.{put, put_if}
-use Rattle.verilog_mean.specs.declared.check.declare.Class.{Class}
+use Rattle.verilog_mean.specs.declared.class.Class.{Class}
 use Rattle.verilog_mean.specs.Declarations.{Declaration, declarations}
-use Rattle.verilog_mean.specs.declared.check.declare.Class.TheVariants.{Input, Output, Wired, Register, Array}
+use Rattle.verilog_mean.specs.declared.class.Class.TheVariants.{Input, Output, Wired, Register, Array}
 use Rattle.verilog_mean.specs.Names.{Refusals, is_among}
 
 -- the name that an item drives; in a reset statement the second of the two

@@ -13,13 +13,13 @@ use Rattle.verilog_tree.specs.declared.tree.Stmt.TheVariants as stmt
 use Rattle.verilog_tree.specs.declared.tree.Item as tree_item
 use Rattle.verilog_tree.specs.declared.tree.Item.TheVariants as item
 use Rattle.verilog_tree.specs.declared.tree.Tree.{Tree}
-use Rattle.verilog_mean.specs.declared.MeanRefusal.{MeanRefusal}
-use Rattle.verilog_mean.specs.declared.MeanRefusal.TheVariants.{NameTwice, BadSize, NameUnknown}
+use Rattle.verilog_mean.specs.declared.refusal.MeanRefusal.{MeanRefusal}
+use Rattle.verilog_mean.specs.declared.refusal.MeanRefusal.TheVariants.{NameTwice, BadSize, NameUnknown}
 use Rattle.verilog_mean.specs.Look.{put_if}
 use Rattle.verilog_mean.specs.Erase.{range_width}
-use Rattle.verilog_mean.specs.declared.check.declare.Class.{Class}
+use Rattle.verilog_mean.specs.declared.class.Class.{Class}
 use Rattle.verilog_mean.specs.Declarations.{Declaration, declarations, item_declaration, index_width}
-use Rattle.verilog_mean.specs.declared.check.declare.Class.TheVariants.{Input, Output, Wired, Register, Array}
+use Rattle.verilog_mean.specs.declared.class.Class.TheVariants.{Input, Output, Wired, Register, Array}
 
 abbrev pub Refusals : Type 0
 Refusals = List MeanRefusal

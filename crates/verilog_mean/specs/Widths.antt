@@ -13,7 +13,7 @@ use Rattle.verilog_tree.specs.declared.tree.Stmt.TheVariants as stmt
 use Rattle.verilog_tree.specs.declared.tree.Item as tree_item
 use Rattle.verilog_tree.specs.declared.tree.Item.TheVariants as item
 use Rattle.verilog_tree.specs.declared.tree.Tree.{Tree}
-use Rattle.verilog_mean.specs.declared.MeanRefusal.TheVariants.{SelectOutside, WidthDiffers}
+use Rattle.verilog_mean.specs.declared.refusal.MeanRefusal.TheVariants.{SelectOutside, WidthDiffers}
 use Rattle.verilog_mean.specs.Look.{put_if}
 use Rattle.verilog_mean.specs.Erase.{plain, plain_parts}
 use Rattle.verilog_mean.specs.Cycle.{width_of, width_of_parts}

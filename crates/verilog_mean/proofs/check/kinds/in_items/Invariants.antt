@@ -1,7 +1,0 @@
-use Rattle.std.proofs.Common.{◌≡◌, drop}
-use Rattle.verilog_mean.specs.Shut.{kinds_by_item}
-use Rattle.verilog_mean.specs.First.{first, in_each}
-use Rattle.verilog_mean.proofs.check.kinds.in_items.Given as goal
-
-abbrev pub invariant-loop-item : goal.invariant-loop-item
-invariant-loop-item l = first (in_each (kinds_by_item l.table) (drop l.item-index l.items)) ≡ first (in_each (kinds_by_item l.table) l.items)

@@ -1,6 +1,0 @@
-use Rattle.std.proofs.Common.{◌∙◌}
-use Rattle.verilog_mean.proofs.Keys.{knows}
-use Rattle.verilog_mean.proofs.check.names.Names.knows.Goals as goal
-
-pub returns : goal.returns
-returns c = c.contains.ensures ∙ knows _ _ _ _ (c.as_bytes.ensures.value ∙ c.text.ensures) c.self.view_is

@@ -1,0 +1,14 @@
+pub mod Keys
+pub mod Refused
+pub mod WholeTree
+pub mod SelectForms
+pub mod Narrows
+pub mod PortForms
+pub mod KnownItems
+pub mod KindForms
+pub mod Uses
+pub mod Rows
+pub mod Unknowns
+pub mod SizeForms
+pub mod First
+pub mod Tables
