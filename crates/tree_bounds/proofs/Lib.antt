@@ -1,0 +1,5 @@
+pub mod Tokens
+pub mod Exprs
+pub mod Items
+pub mod Trees
+pub mod Examples
