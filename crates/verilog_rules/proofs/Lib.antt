@@ -12,3 +12,9 @@ pub mod Unknowns
 pub mod SizeForms
 pub mod First
 pub mod Tables
+pub mod NeedForms
+pub mod Numbers
+pub mod Needs
+pub mod ItemOrder
+pub mod SourceForms
+pub mod LoopPlaces

@@ -5,3 +5,6 @@ pub mod Narrow
 pub mod Passes
 pub mod Shut
 pub mod Uses
+pub mod Sources
+pub mod Edges
+pub mod LoopPlace

@@ -3,14 +3,18 @@
 
 mod declare;
 mod drivers;
+mod edges;
 mod kinds;
 mod known;
+mod loops;
 mod names;
 mod once;
 mod ports;
 mod rules;
 mod selects;
 mod sizes;
+mod sources;
 mod table;
 
+pub use loops::order_items;
 pub use rules::check_rules;

@@ -1,0 +1,9 @@
+pub mod Same
+pub mod Counts
+pub mod Enters
+pub mod Leaves
+pub mod Passes
+pub mod Loops
+pub mod Popped
+pub mod Moved
+pub mod Orders

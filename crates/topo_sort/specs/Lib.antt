@@ -1,0 +1,6 @@
+pub mod Graph
+pub mod Order
+pub mod Stops
+pub mod Ranks
+pub mod Search
+pub mod Moves
