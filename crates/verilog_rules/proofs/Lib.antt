@@ -2,6 +2,8 @@ pub mod Keys
 pub mod Refused
 pub mod WholeTree
 pub mod SelectForms
+pub mod WidthForms
+pub mod BitsFew
 pub mod Narrows
 pub mod PortForms
 pub mod KnownItems

@@ -13,9 +13,9 @@ use Rattle.verilog_mean.specs.Erase.{range_width}
 use Rattle.verilog_mean.specs.Declarations.{Declaration, declaration_of, declared_width, width_among, index_width}
 use Rattle.verilog_mean.specs.Names.{bad_range, bad_cells, bad_sizes_in, Refusals}
 use Rattle.verilog_mean.specs.Kinds.{kinds_in_items}
-use Rattle.verilog_mean.specs.Widths.{selects_in_items}
+use Rattle.verilog_mean.specs.Widths.{selects_in_items, widths_in_items}
 use Rattle.verilog_rules.specs.Narrow.{IsNarrow}
-use Rattle.verilog_rules.specs.Shut.{kinds_by_item, selects_by_item}
+use Rattle.verilog_rules.specs.Shut.{kinds_by_item, selects_by_item, widths_by_item}
 use Rattle.verilog_rules.specs.First.{in_each}
 
 pub kinds_whole : (ds : List Declaration) (is : List Item) → in_each (kinds_by_item ds) is ≡ kinds_in_items ds is
@@ -27,6 +27,11 @@ pub selects_whole : (ds : List Declaration) (is : List Item) → in_each (select
 unfolding selects_by_item
 selects_whole ds [] = refl
 selects_whole ds (i ∷ is) = ap (λ rs. selects_by_item ds i ++ rs) (selects_whole ds is)
+
+pub widths_whole : (ds : List Declaration) (is : List Item) → in_each (widths_by_item ds) is ≡ widths_in_items ds is
+unfolding widths_by_item
+widths_whole ds [] = refl
+widths_whole ds (i ∷ is) = ap (λ rs. widths_by_item ds i ++ rs) (widths_whole ds is)
 
 two_ok : (a b : Bool) (r s : MeanRefusal) (rest : Refusals) → put_if (not a) r (put_if b s rest) ≡ [] → (a ≡ true) × (rest ≡ [])
 two_ok false b r s rest h = cc

@@ -1,8 +1,9 @@
+pub mod Bits
 pub mod Collected
 pub mod SameNames
 pub mod First
 pub mod Narrow
-pub mod Passes
+pub mod Refusals
 pub mod Shut
 pub mod Uses
 pub mod Sources

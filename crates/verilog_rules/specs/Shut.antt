@@ -1,13 +1,16 @@
--- Refusals of an expression, shut, so that proofs go by their equations alone.
-use Rattle.std.specs.Prelude.{ℕ, List, []}
+-- Refusals and widths of an expression, shut, so that proofs go by their equations alone.
+use Rattle.std.specs.Prelude.{ℕ, not, eqb, leb, List, []}
 use Rattle.verilog_tree.specs.declared.expr.Expr.{Expr}
 use Rattle.verilog_tree.specs.declared.tree.Stmt as tree_stmt
 use Rattle.verilog_tree.specs.declared.tree.Item as tree_item
 use Rattle.verilog_tree.specs.declared.tree.Item.TheVariants as item
 use Rattle.verilog_mean.specs.Names.{unknown_in, unknown_in_driver, unknown_in_stmt, unknown_name, Refusals}
+use Rattle.verilog_tree.specs.declared.tree.Driver.{Driver}
+use Rattle.verilog_mean.specs.declared.refusal.MeanRefusal.TheVariants.{WidthDiffers}
+use Rattle.verilog_mean.specs.Look.{put_if}
 use Rattle.verilog_mean.specs.Declarations.{Declaration}
 use Rattle.verilog_mean.specs.Kinds.{kinds_in, kinds_in_stmt, kinds_in_item}
-use Rattle.verilog_mean.specs.Widths.{selects_in, selects_in_stmt, selects_in_item}
+use Rattle.verilog_mean.specs.Widths.{selects_in, selects_in_stmt, selects_in_item, width, widths_in, widths_at, widths_in_stmt, widths_in_item}
 
 unfoldable pub unknown_names : (known : List (List ℕ)) → Expr → Refusals
 unknown_names known e = unknown_in known e
@@ -39,3 +42,26 @@ selects_by_stmt ds s = selects_in_stmt ds s
 
 unfoldable pub selects_by_item : List Declaration → tree_item.Item → Refusals
 selects_by_item ds i = selects_in_item ds i
+
+-- two widths that are to be equal
+unfoldable pub unequal : (at left right : ℕ) → Refusals
+unequal at left right = put_if (not (eqb left right)) (WidthDiffers at left right) []
+
+-- a join of more than 64 bits
+unfoldable pub too_wide : (at width : ℕ) → Refusals
+too_wide at width = put_if (not (leb width 64)) (WidthDiffers at width 64) []
+
+unfoldable pub expr_width : List Declaration → Expr → ℕ
+expr_width ds e = width ds e
+
+unfoldable pub width_refusals : List Declaration → Expr → Refusals
+width_refusals ds e = widths_in ds e
+
+unfoldable pub widths_by_driver : List Declaration → (left : ℕ) → Driver → Refusals
+widths_by_driver ds left d = widths_at ds left d
+
+unfoldable pub widths_by_stmt : List Declaration → tree_stmt.Stmt → Refusals
+widths_by_stmt ds s = widths_in_stmt ds s
+
+unfoldable pub widths_by_item : List Declaration → tree_item.Item → Refusals
+widths_by_item ds i = widths_in_item ds i

@@ -1,4 +1,4 @@
-//! The checker of sound trees. So far it tries the rules but for the sixth, on widths, and the ninth, on loops.
+//! The checker of sound trees: it tries nine rules, in their order, and answers the first refusal.
 #![tactic(auto)]
 
 mod declare;
@@ -15,6 +15,9 @@ mod selects;
 mod sizes;
 mod sources;
 mod table;
+mod widths;
 
-pub use loops::order_items;
-pub use rules::check_rules;
+pub use rules::check_tree;
+
+#[cfg(test)]
+mod tests;

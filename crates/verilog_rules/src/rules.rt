@@ -1,20 +1,24 @@
-ghost use Rattle.std.specs.Prelude.{◌≡◌, ◌++◌, [], IfOk, IfErr, map};
+ghost use Rattle.std.specs.Prelude.{◌≡◌, ◌⊎◌, ◌++◌, [], IfOk, IfErr, map};
 ghost use Rattle.verilog_rules.specs.Collected.{declaration};
 ghost use Rattle.verilog_mean.specs.Declarations.{declarations};
 ghost use Rattle.verilog_mean.specs.Names.{names_twice, bad_sizes};
 ghost use Rattle.verilog_mean.specs.Kinds.{kinds_differ};
-ghost use Rattle.verilog_mean.specs.Widths.{selects_outside};
+ghost use Rattle.verilog_mean.specs.Widths.{selects_outside, widths_differ};
+ghost use Rattle.verilog_mean.specs.Bounds.{IsBounded};
 ghost use Rattle.verilog_mean.specs.Drivers.{drivers_twice, drivers_missing};
-ghost use Rattle.verilog_rules.specs.Passes.{Passes, IsRefused};
+ghost use Rattle.verilog_mean.specs.Checked.{IsChecked};
+ghost use Rattle.verilog_mean.specs.Sound.{IsSound};
+ghost use Rattle.verilog_rules.specs.Refusals.{refusals, IsFirstRefusal};
 ghost use Rattle.verilog_rules.specs.First.{first, Refuses};
 
 use crate::declare::{Declared, collect};
+use crate::loops::order_items;
 use crate::once::table_of;
 use crate::ports::names_unknown;
 use crate::table::Table;
-use crate::{drivers, kinds, selects, sizes};
+use crate::{drivers, kinds, selects, sizes, widths};
 use std::alloc::Global;
-use verilog_mean::MeanRefusal;
+use verilog_mean::{Checked, MeanRefusal};
 use verilog_tree::Tree;
 
 /// The declarations of a tree, in the order of the text and by their names.
@@ -69,6 +73,18 @@ pub fn selects_outside(tree: &Tree, table: &Table) -> Option<MeanRefusal>
     selects::in_items(tree.items.items().as_slice(), table)
 }
 
+/// Sixth rule: the first of two widths that are to be equal and differ.
+#[tactic(auto, using(crate::proofs::WholeTree::widths_whole, crate::proofs::WholeTree::small, crate::proofs::BitsFew::tree_few))]
+pub fn widths_differ(tree: &Tree, table: &Table) -> Option<MeanRefusal>
+    requires bounded { IsBounded tree.now }
+    requires table { table.now ≡ declarations tree.now }
+    requires sizes { bad_sizes tree.now ≡ [] }
+    requires selects { selects_outside tree.now ≡ [] }
+    ensures { result ≡ first (widths_differ tree.now) }
+{
+    widths::in_items(tree.items.items().as_slice(), table)
+}
+
 /// Seventh and eighth rule: each name that needs a driver has one driver.
 pub fn drivers(alloc: Global, tree: &Tree, all: &[Declared]) -> Result<(), MeanRefusal>
     requires { map declaration all.now ≡ declarations tree.now }
@@ -86,11 +102,12 @@ pub fn drivers(alloc: Global, tree: &Tree, all: &[Declared]) -> Result<(), MeanR
     }
 }
 
-/// The first refusal of the rules, but for those on widths and loops.
-#[tactic(auto, using(crate::proofs::Refused::refused))]
-pub fn check_rules(alloc: Global, tree: &Tree) -> Result<(), MeanRefusal>
-    ensures sound { IfOk result (λ _. Passes tree.now) }
-    ensures refused { IfErr result (λ r. IsRefused r tree.now) }
+/// The first eight rules, in their order.
+#[tactic(auto, using(crate::proofs::Refused::no_refusals))]
+fn check_rules(alloc: Global, tree: &Tree) -> Result<(), MeanRefusal>
+    requires { IsBounded tree.now }
+    ensures sound { IfOk result (λ _. refusals tree.now ≡ []) }
+    ensures refused { IfErr result (λ r. Refuses r (refusals tree.now)) }
 {
     let found = match declare(alloc, tree) {
         Ok(found) => found,
@@ -112,5 +129,32 @@ pub fn check_rules(alloc: Global, tree: &Tree) -> Result<(), MeanRefusal>
         Some(refusal) => return Err(refusal),
         None => {}
     }
+    match widths_differ(tree, &found.table) {
+        Some(refusal) => return Err(refusal),
+        None => {}
+    }
     drivers(alloc, tree, found.all.as_slice())
+}
+
+/// Checks that a tree is sound, by the nine rules in their order.
+///
+/// # Errors
+///
+/// The first refusal of the first rule that refuses the tree; `MeanRefusal::NoMemory`.
+#[tactic(auto, using(crate::proofs::Refused::loop_not_sound, crate::proofs::BitsFew::few_items))]
+pub fn check_tree(alloc: Global, tree: Tree) -> Result<Checked, MeanRefusal>
+    requires { IsBounded tree }
+    ensures checked { IfOk result (λ c. IsChecked c) }
+    ensures same { IfOk result (λ c. c.tree ≡ tree) }
+    ensures refused { IfErr result (λ r. (r ≡ MeanRefusal.NoMemory) ⊎ (IsSound tree → ⊥)) }
+    ensures first { IfErr result (λ r. IsFirstRefusal tree r) }
+{
+    match check_rules(alloc, &tree) {
+        Ok(()) => {}
+        Err(refusal) => return Err(refusal),
+    }
+    match order_items(alloc, &tree) {
+        Ok(order) => Ok(Checked { tree, order }),
+        Err(refusal) => Err(refusal),
+    }
 }

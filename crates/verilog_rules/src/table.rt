@@ -1,5 +1,5 @@
-use core_host::Name;
 use crate::declare::{Declared, Shape};
+use core_host::Name;
 use indexmap::IndexMap;
 use std::alloc::{AllocError, Global};
 use std::marker::Model;
