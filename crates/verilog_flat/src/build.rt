@@ -31,17 +31,19 @@ impl Build {
         }
     }
 
-    /// Appends a node, and answers its number.
+    /// Appends a node, and answers its number. It fails without memory, and where there are 2^32 nodes already.
     #[tactic(auto, using(crate::proofs::Well::well_push))]
     pub fn push(&mut self, node: Node) -> Result<u32, AllocError>
         requires fits { IsFit self.old.regs self.old.cells self.old.ins (vec_len self.old.nodes) node }
-        requires few { vec_len self.old.nodes < 2 ^ 32 }
         ensures number { IfOk result (λ at. at ≡ vec_len self.old.nodes) }
         ensures pushed { IfOk result (λ at. self.new.nodes.items ≡ self.old.nodes.items ++ (node ∷ [])) }
         ensures grows { IfOk result (λ at. vec_len self.new.nodes ≡ vec_len self.old.nodes + 1) }
         ensures failed { IfErr result (λ e. self.new.nodes.items ≡ self.old.nodes.items) }
         ensures same { IsSameRoom self.new self.old }
     {
+        if self.nodes.len() > u32::MAX as usize {
+            return Err(AllocError);
+        }
         let at = self.nodes.len() as u32;
         self.nodes.push(node)?;
         Ok(at)

@@ -3,6 +3,7 @@ pub mod Plain
 pub mod Erase
 pub mod Cycle
 pub mod Run
+pub mod Zero
 pub mod CorePorts
 pub mod Declarations
 pub mod Names

@@ -19,5 +19,5 @@ binds_one drivers rest d ns ms os p q r before means m rank ranked driven s ins 
     let b = before m rank ranked driven s ins regs cells inputs match_ in (
       b.0.1.1,
       means regs cells inputs (width_in m) s.cells (value m s ins) b.0.1.0
-          (value_driven m rank (record { lower = ranked.0; small = ranked.1 }) s ins d.name.now (plain d.value.now) b.0.0) b.1,
+          (value_driven m rank ranked s ins d.name.now (plain d.value.now) b.0.0) b.1,
     )

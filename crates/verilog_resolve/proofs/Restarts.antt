@@ -38,10 +38,12 @@ module _ (regs cells ins : List ℕ) (w : List ℕ → ℕ) (arrays : List ℕ �
       ∙ ap (λ v. cond (eqb v 1) (V ms first) (V ms g.at)) a ∙ ap (λ v. cond (eqb (val reset_name) 1) v (V ms g.at)) b
       ∙ ap (λ v. cond (eqb (val reset_name) 1) start v) c
 
+  pub restart_kept : (j : ℕ) → j < length ns → V os j ≡ V ns j
+  restart_kept j h =
+      let k = means.longer in let l = longer in
+      ap (λ xs. V xs j) p2 ∙ push_keeps regs cells ins ms (Choice test first g.at) j (omega (arith, h, k, l)) ∙ kept j (omega (arith, h, k)) ∙ means.keeps j h
+
   pub restart_keeps : (p : List ℕ → Place) → ((x : List ℕ) → Matches regs cells ins w arrays val ns x (p x)) → (x : List ℕ) → Matches regs cells ins w arrays val os x (p x)
   restart_keeps p m x =
       let k = means.longer in let l = longer in
-      keep_place regs cells ins w arrays val ns os x (p x)
-      (subst (λ xs. length ns ≤ length xs) (sym p2) (grind (arith, length-append, k, l)))
-      (λ j h. ap (λ xs. V xs j) p2 ∙ push_keeps regs cells ins ms (Choice test first g.at) j (omega (arith, h, k, l)) ∙ kept j (omega (arith, h, k)) ∙ means.keeps j h)
-      (m x)
+      keep_place regs cells ins w arrays val ns os x (p x) (subst (λ xs. length ns ≤ length xs) (sym p2) (grind (arith, length-append, k, l))) restart_kept (m x)

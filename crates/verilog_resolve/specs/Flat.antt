@@ -62,19 +62,3 @@ abbrev mutual
   pub flat_parts : (p : List ℕ → Place) → Exprs → Option Operand → List Node → Grown
   flat_parts p NoPart f ns = ended f ns
   flat_parts p (Part e es) f ns = let g = merged f (flat p e ns) in flat_parts p es (operand_of g) g.nodes
-
--- no more nodes than these are appended
-abbrev mutual
-  pub node_count : Expr → ℕ
-  node_count (Literal width value) = 1
-  node_count (Named x) = 0
-  node_count (Select x high low) = 1
-  node_count (Cell x index) = node_count index + 1
-  node_count (Not inner) = node_count inner + 1
-  node_count (Join parts) = part_count parts
-  node_count (Binary s left right) = node_count left + node_count right + 1
-  node_count (Choice test first second) = node_count test + node_count first + node_count second + 1
-
-  pub part_count : Exprs → ℕ
-  part_count NoPart = 0
-  part_count (Part e es) = node_count e + 1 + part_count es

@@ -5,14 +5,13 @@ use Rattle.verilog_mean.specs.Plain.{Expr, Plain}
 use Rattle.verilog_mean.specs.Cycle.{State, width_in, width_of, source_of, value}
 use Rattle.verilog_mean.specs.Cycle.Source.{Driven}
 use Rattle.verilog_mean.specs.Erase.{plain}
-use Rattle.verilog_mean.specs.Loops.{Mentions}
+use Rattle.verilog_mean.specs.Order.{IsRanked}
 use Rattle.verilog_flat.specs.declared.node.Node.{Node}
 use Rattle.verilog_resolve.specs.declared.driver.WireDriver.{WireDriver}
 use Rattle.verilog_resolve.specs.declared.names.Place.{Place}
 use Rattle.verilog_resolve.specs.declared.names.Place.TheVariants.{Absent, Net, Array}
 use Rattle.verilog_resolve.specs.declared.names.Names.{Names}
 use Rattle.verilog_resolve.specs.Names.{places}
-use Rattle.verilog_resolve.specs.Flat.{node_count}
 use Rattle.verilog_resolve.specs.Fine.{IsFine, wide}
 use Rattle.verilog_resolve.specs.Means.{Matches}
 
@@ -30,6 +29,10 @@ known names = λ x. bare (places names x)
 abbrev pub with_net : (k : List ℕ → Place) (x : List ℕ) (width : ℕ) → List ℕ → Place
 with_net k x width = λ y. cond (same_name x y) (Net 0 width) (k y)
 
+-- what is known once x is an array of a width
+abbrev pub with_array : (k : List ℕ → Place) (x : List ℕ) (width : ℕ) → List ℕ → Place
+with_array k x width = λ y. cond (same_name x y) (Array 0 0 width) (k y)
+
 abbrev pub with_driver : (k : List ℕ → Place) → WireDriver → List ℕ → Place
 with_driver k d = with_net k d.name.now (wide k (plain d.value.now))
 
@@ -42,17 +45,7 @@ abbrev pub AreOrdered : (k : List ℕ → Place) → List WireDriver → Type 0
 AreOrdered k [] = Unit {0}
 AreOrdered k (d ∷ ds) = IsFine k (plain d.value.now) × AreOrdered (with_driver k d) ds
 
--- no more nodes than these are appended
-abbrev pub count_all : List WireDriver → ℕ
-count_all [] = 0
-count_all (d ∷ ds) = node_count (plain d.value.now) + count_all ds
-
 -- ---- the module that has these drivers
-
--- a rank of names, by which a module has no loop: what a driver names is of a smaller rank
-abbrev pub HasRank : Plain → (rank : List ℕ → ℕ) → Type 0
-HasRank m rank =
-    ((x y : List ℕ) (e : Expr) → source_of m x ≡ Driven e → Mentions e y → rank y < rank x) × ((x : List ℕ) → rank x ≤ length m.items)
 
 -- a module drives each name so, and a name is as wide as its driver
 abbrev pub AreDriven : Plain → List WireDriver → Type 0
@@ -66,6 +59,6 @@ AllMatch m s ins regs cells inputs ns p = (x : List ℕ) → Matches regs cells 
 
 -- With the drivers bound but for the rest, the nodes are ms and not ns, and the places q and not p: values match again.
 abbrev pub Binds : (drivers rest : List WireDriver) (ns ms : List Node) (p q : List ℕ → Place) → Type 0
-Binds drivers rest ns ms p q = (m : Plain) (rank : List ℕ → ℕ) → HasRank m rank → AreDriven m drivers
+Binds drivers rest ns ms p q = (m : Plain) (rank : List ℕ → ℕ) → IsRanked m rank → AreDriven m drivers
     → (s : State) (ins : List ℕ → ℕ) (regs cells inputs : List ℕ)
     → AllMatch m s ins regs cells inputs ns p → AreDriven m rest × AllMatch m s ins regs cells inputs ms q

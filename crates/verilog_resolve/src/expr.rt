@@ -4,7 +4,7 @@ ghost use Rattle.verilog_mean.specs.Erase.{plain};
 ghost use Rattle.verilog_flat.specs.Builds.{IsSameRoom};
 ghost use Rattle.verilog_resolve.specs.Names.{IsIn, places};
 ghost use Rattle.verilog_resolve.specs.View.{view};
-ghost use Rattle.verilog_resolve.specs.Flat.{flat, joined, mask_of, merged, node_count};
+ghost use Rattle.verilog_resolve.specs.Flat.{flat, joined, mask_of, merged};
 ghost use Rattle.verilog_resolve.specs.Means.{Matches, Means};
 ghost use Rattle.verilog_resolve.specs.declared.names.Place.{Place};
 ghost use Rattle.core_words.specs.Names.{same_name};
@@ -42,7 +42,6 @@ fn push_binary(
 ) -> Result<Operand, AllocError>
     requires left { IsOperand (vec_len build.old.nodes) left }
     requires right { IsOperand (vec_len build.old.nodes) right }
-    requires few { vec_len build.old.nodes < 2 ^ 32 }
     ensures flat { IfOk result (λ d. joined sign left.at right.at left.width build.old.nodes.items ≡ record { nodes = build.new.nodes.items; at = d.at; width = d.width }) }
     ensures within { IfOk result (λ d. IsOperand (vec_len build.new.nodes) d) }
     ensures grows { IfOk result (λ d. vec_len build.new.nodes ≡ vec_len build.old.nodes + 1) }
@@ -73,7 +72,6 @@ fn push_binary(
 fn push_part(all: Option<Operand>, part: Operand, build: &mut Build) -> Result<Operand, AllocError>
     requires all { IsBegun (vec_len build.old.nodes) part.width all }
     requires part { (part.at < vec_len build.old.nodes) × (part.width ≤ 64) }
-    requires few { vec_len build.old.nodes < 2 ^ 32 }
     ensures flat { IfOk result (λ d. merged all (record { nodes = build.old.nodes.items; at = part.at; width = part.width }) ≡ record { nodes = build.new.nodes.items; at = d.at; width = d.width }) }
     ensures within { IfOk result (λ d. d.at < vec_len build.new.nodes) }
     ensures width { IfOk result (λ d. d.width ≡ begun_width all + part.width) }
@@ -102,12 +100,10 @@ fn push_part(all: Option<Operand>, part: Operand, build: &mut Build) -> Result<O
 fn resolve(e: &Expr, names: &Names, build: &mut Build) -> Result<Operand, AllocError>
     requires fine { IsFine (places names.now) (view e.now) }
     requires scope { (x : List ℕ) → IsIn (vec_len build.old.nodes) build.old.cells (places names.now x) }
-    requires few { vec_len build.old.nodes + node_count (view e.now) ≤ 2 ^ 32 }
     ensures flat { IfOk result (λ d. flat (places names.now) (view e.now) build.old.nodes.items ≡ record { nodes = build.new.nodes.items; at = d.at; width = d.width }) }
     ensures within { IfOk result (λ d. IsOperand (vec_len build.new.nodes) d) }
     ensures width { IfOk result (λ d. d.width ≡ wide (places names.now) (view e.now)) }
     ensures scope { (x : List ℕ) → IsIn (vec_len build.new.nodes) build.new.cells (places names.now x) }
-    ensures count { IfOk result (λ d. vec_len build.new.nodes ≤ vec_len build.old.nodes + node_count (view e.now)) }
     ensures longer { vec_len build.old.nodes ≤ vec_len build.new.nodes }
     ensures same { IsSameRoom build.new build.old }
 {
@@ -206,14 +202,12 @@ fn resolve(e: &Expr, names: &Names, build: &mut Build) -> Result<Operand, AllocE
 pub fn flatten(e: &Expr, names: &Names, build: &mut Build) -> Result<Operand, AllocError>
     requires fine { IsFine (places names.now) (plain e.now) }
     requires scope { (x : List ℕ) → IsIn (vec_len build.old.nodes) build.old.cells (places names.now x) }
-    requires few { vec_len build.old.nodes + node_count (plain e.now) ≤ 2 ^ 32 }
     ensures means { IfOk result (λ d. (regs cells ins : List ℕ) (w : List ℕ → ℕ) (arrays : List ℕ → List ℕ) (val : List ℕ → ℕ)
         → ((x : List ℕ) → Matches regs cells ins w arrays val build.old.nodes.items x (places names.now x))
         → Means regs cells ins w arrays val build.old.nodes.items (plain e.now) (record { nodes = build.new.nodes.items; at = d.at; width = d.width })) }
     ensures within { IfOk result (λ d. IsOperand (vec_len build.new.nodes) d) }
     ensures width { IfOk result (λ d. d.width ≡ wide (places names.now) (plain e.now)) }
     ensures scope { (x : List ℕ) → IsIn (vec_len build.new.nodes) build.new.cells (places names.now x) }
-    ensures count { IfOk result (λ d. vec_len build.new.nodes ≤ vec_len build.old.nodes + node_count (plain e.now)) }
     ensures longer { vec_len build.old.nodes ≤ vec_len build.new.nodes }
     ensures same { IsSameRoom build.new build.old }
 {
@@ -229,7 +223,6 @@ pub fn bind_wire<'a>(
 ) -> Result<Operand, AllocError>
     requires fine { IsFine (places names.old) (plain driver.now) }
     requires scope { (x : List ℕ) → IsIn (vec_len build.old.nodes) build.old.cells (places names.old x) }
-    requires few { vec_len build.old.nodes + node_count (plain driver.now) ≤ 2 ^ 32 }
     ensures means { IfOk result (λ d. (regs cells ins : List ℕ) (w : List ℕ → ℕ) (arrays : List ℕ → List ℕ) (val : List ℕ → ℕ)
         → w name.now ≡ width_of w (plain driver.now) → val name.now ≡ eval w arrays val (plain driver.now)
         → ((x : List ℕ) → Matches regs cells ins w arrays val build.old.nodes.items x (places names.old x))
@@ -238,7 +231,6 @@ pub fn bind_wire<'a>(
     ensures others { IfOk result (λ d. (x : List ℕ) → same_name name.now x ≡ false → places names.new x ≡ places names.old x) }
     ensures scope { IfOk result (λ d. (x : List ℕ) → IsIn (vec_len build.new.nodes) build.new.cells (places names.new x)) }
     ensures width { IfOk result (λ d. d.width ≡ wide (places names.old) (plain driver.now)) }
-    ensures count { IfOk result (λ d. vec_len build.new.nodes ≤ vec_len build.old.nodes + node_count (plain driver.now)) }
     ensures same { IsSameRoom build.new build.old }
 {
     let found = flatten(driver, names, build)?;

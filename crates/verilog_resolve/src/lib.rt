@@ -16,5 +16,5 @@ pub use driver::WireDriver;
 pub use expr::{Operand, bind_wire, flatten};
 pub use names::{Names, Place};
 pub use next::push_restart;
-pub use source::bind_node;
+pub use source::{bind_array, bind_node};
 pub use wires::bind_wires;

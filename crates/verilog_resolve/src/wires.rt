@@ -1,15 +1,15 @@
 ghost use Rattle.std.specs.Prelude.{◌≡◌, ℕ, List, ◌+◌, ◌^◌, ◌≤◌, ◌∷◌, IfOk, vec_len};
 ghost use Rattle.verilog_mean.specs.Cycle.{State};
+ghost use Rattle.verilog_mean.specs.Order.{IsRanked};
 ghost use Rattle.verilog_mean.specs.Plain.{Plain};
 ghost use Rattle.verilog_mean.specs.Erase.{plain};
 ghost use Rattle.verilog_flat.specs.declared.node.Node.{Node};
 ghost use Rattle.verilog_resolve.specs.declared.driver.WireDriver.{WireDriver};
 ghost use Rattle.verilog_resolve.specs.declared.names.Place.{Place};
-ghost use Rattle.verilog_resolve.specs.Flat.{node_count};
 ghost use Rattle.verilog_resolve.specs.Fine.{IsFine};
 ghost use Rattle.verilog_flat.specs.Builds.{IsSameRoom};
 ghost use Rattle.verilog_resolve.specs.Names.{IsIn, places};
-ghost use Rattle.verilog_resolve.specs.Wires.{AllMatch, AreDriven, AreOrdered, Binds, HasRank, count_all, known, with_nets};
+ghost use Rattle.verilog_resolve.specs.Wires.{AllMatch, AreDriven, AreOrdered, Binds, known, with_nets};
 
 use crate::driver::WireDriver;
 use crate::expr::bind_wire;
@@ -25,13 +25,11 @@ fn bind_driver<'a>(
 ) -> Result<(), AllocError>
     requires fine { IsFine (known names.old) (plain driver.now.value.now) }
     requires scope { (x : List ℕ) → IsIn (vec_len build.old.nodes) build.old.cells (places names.old x) }
-    requires few { vec_len build.old.nodes + node_count (plain driver.now.value.now) ≤ 2 ^ 32 }
     ensures ordered { IfOk result (λ d. (rest : List WireDriver) → AreOrdered (known names.old) (driver.now ∷ rest) → AreOrdered (known names.new) rest) }
     ensures nets { IfOk result (λ d. (rest : List WireDriver) → with_nets (known names.old) (driver.now ∷ rest) ≡ with_nets (known names.new) rest) }
     ensures binds { IfOk result (λ d. (drivers rest : List WireDriver) (ns : List Node) (p : List ℕ → Place)
         → Binds drivers (driver.now ∷ rest) ns build.old.nodes.items p (places names.old) → Binds drivers rest ns build.new.nodes.items p (places names.new)) }
     ensures scope { IfOk result (λ d. (x : List ℕ) → IsIn (vec_len build.new.nodes) build.new.cells (places names.new x)) }
-    ensures count { IfOk result (λ d. vec_len build.new.nodes ≤ vec_len build.old.nodes + node_count (plain driver.now.value.now)) }
     ensures same { IsSameRoom build.new build.old }
 {
     bind_wire(driver.name, driver.value, names, build)?;
@@ -50,14 +48,12 @@ pub fn bind_wires<'a>(
 ) -> Result<(), AllocError>
     requires ordered { AreOrdered (known names.old) drivers.now }
     requires scope { (x : List ℕ) → IsIn (vec_len build.old.nodes) build.old.cells (places names.old x) }
-    requires few { vec_len build.old.nodes + count_all drivers.now ≤ 2 ^ 32 }
-    ensures values { IfOk result (λ d. (m : Plain) (rank : List ℕ → ℕ) → HasRank m rank → AreDriven m drivers.now
+    ensures values { IfOk result (λ d. (m : Plain) (rank : List ℕ → ℕ) → IsRanked m rank → AreDriven m drivers.now
         → (s : State) (ins : List ℕ → ℕ) (regs cells inputs : List ℕ)
         → AllMatch m s ins regs cells inputs build.old.nodes.items (places names.old)
         → AllMatch m s ins regs cells inputs build.new.nodes.items (places names.new)) }
     ensures known { IfOk result (λ d. known names.new ≡ with_nets (known names.old) drivers.now) }
     ensures scope { IfOk result (λ d. (x : List ℕ) → IsIn (vec_len build.new.nodes) build.new.cells (places names.new x)) }
-    ensures count { IfOk result (λ d. vec_len build.new.nodes ≤ vec_len build.old.nodes + count_all drivers.now) }
     ensures same { IsSameRoom build.new build.old }
 {
     let mut rest = drivers;

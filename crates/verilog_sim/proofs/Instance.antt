@@ -35,5 +35,6 @@ turning_is_simulated : SimulatesBy turning layout nodes (4 ∷ []) [] (1 ∷ [])
 unfolding value value_to next
 turning_is_simulated s inputs regs cells h given = (
   ap (λ rs. get_or rs 0 0 ∷ []) (sym h.1.0),
+  (h.0.0, tt),
   ((fits (eqb (inputs reset_name) 1) (s.regs r), tt), (ap (λ rs. cond (eqb (inputs reset_name) 1) 3 (15 - get_or rs 0 0) ∷ []) h.1.0, tt)),
 )

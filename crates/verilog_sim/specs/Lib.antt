@@ -1,1 +1,14 @@
 pub mod Simulates
+pub mod Layouts
+pub mod Rooms
+pub mod Bindings
+pub mod Drives
+pub mod Stmts
+pub mod Nexts
+pub mod Puts
+pub mod StmtTables
+pub mod HeldItems
+pub mod Targets
+pub mod Matched
+pub mod ArrayPlaces
+pub mod Cells

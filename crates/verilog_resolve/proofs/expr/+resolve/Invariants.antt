@@ -2,7 +2,7 @@ use Rattle.std.proofs.Common.{◌≡◌, ◌+◌, ◌≤◌, ℕ, List, map, dro
 use Rattle.verilog_flat.specs.Builds.{IsSameRoom}
 use Rattle.verilog_resolve.specs.Names.{places, IsIn}
 use Rattle.verilog_resolve.specs.View.{view, parts_of}
-use Rattle.verilog_resolve.specs.Flat.{flat, flat_parts, node_count, part_count}
+use Rattle.verilog_resolve.specs.Flat.{flat, flat_parts}
 use Rattle.verilog_resolve.specs.Fine.{AreFine, IsBegun, HasOperand, begun_width, wide, wide_parts}
 use Rattle.verilog_resolve.proofs.expr.+resolve.Given as goal
 
@@ -16,5 +16,4 @@ invariant-loop-part l =
     × (begun_width l.all + wide_parts (places l.names) rest ≡ wide (places l.names) (view l.e))
     × ((x : List ℕ) → IsIn (vec_len l.build.nodes) l.build.cells (places l.names x))
     × (vec_len l.initial.build.nodes ≤ vec_len l.build.nodes)
-    × (vec_len l.build.nodes + part_count rest ≤ vec_len l.initial.build.nodes + node_count (view l.e))
     × IsSameRoom l.build l.initial.build

@@ -1,7 +1,7 @@
 use Rattle.std.proofs.Common.{◌≡◌, ◌+◌, ◌^◌, ◌≤◌, IfOk, vec_len, sym, subst}
 use Rattle.verilog_mean.specs.Erase.{plain}
 use Rattle.verilog_resolve.specs.Names.{places}
-use Rattle.verilog_resolve.specs.Flat.{flat, node_count}
+use Rattle.verilog_resolve.specs.Flat.{flat}
 use Rattle.verilog_resolve.specs.Fine.{IsFine, wide}
 use Rattle.verilog_resolve.proofs.Bound.{flat_is, map_ok}
 use Rattle.verilog_resolve.proofs.ViewIsPlain.{view_is_plain}
@@ -9,9 +9,6 @@ use Rattle.verilog_resolve.proofs.expr.flatten.Goals as goal
 
 pub resolve-requires-clause-fine : goal.resolve-requires-clause-fine
 resolve-requires-clause-fine c = subst (IsFine (places c.args.names.now)) (sym (view_is_plain c.args.e.now)) c.requires.fine
-
-pub resolve-requires-clause-few : goal.resolve-requires-clause-few
-resolve-requires-clause-few c = subst (λ z. vec_len c.args.build.now.nodes + node_count z ≤ 2 ^ 32) (sym (view_is_plain c.args.e.now)) c.requires.few
 
 pub returns-clause-means : goal.returns-clause-means
 returns-clause-means c =
@@ -23,7 +20,3 @@ returns-clause-means c =
 
 pub returns-clause-width : goal.returns-clause-width
 returns-clause-width c = subst (λ z. IfOk c.resolve.result (λ d. d.width ≡ wide (places c.args.names.now) z)) (view_is_plain c.args.e.now) c.resolve.ensures.width
-
-pub returns-clause-count : goal.returns-clause-count
-returns-clause-count c =
-    subst (λ z. IfOk c.resolve.result (λ d. vec_len c.resolve.new.build.nodes ≤ vec_len c.args.build.now.nodes + node_count z)) (view_is_plain c.args.e.now) c.resolve.ensures.count

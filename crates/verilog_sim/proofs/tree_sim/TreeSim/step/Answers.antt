@@ -9,13 +9,18 @@ returns-clause-outs c = λ m layout s inputs sim shows fits given.
     let old = c.args.self.now.flat in
     c.step.ensures.outs ∙ ap (λ i. outputs old i) (sym given) ∙ (sim s inputs old.regs.items old.cells.items shows fits).0
 
+pub returns-clause-fit : goal.returns-clause-fit
+returns-clause-fit c = λ m layout s inputs sim shows fits given.
+    let old = c.args.self.now.flat in
+    (sim s inputs old.regs.items old.cells.items shows fits).1
+
 pub returns-clause-held : goal.returns-clause-held
 returns-clause-held c = λ m layout s inputs sim shows fits given.
     let old = c.args.self.now.flat in
     let new = c.step.new.self in
     subst (λ regs. Shows m layout (next m s inputs) regs new.cells.items) (sym c.step.ensures.regs)
     (subst (λ cells. Shows m layout (next m s inputs) (next_regs old c.args.ins.now) cells) (sym c.step.ensures.cells)
-    (subst (λ i. Shows m layout (next m s inputs) (next_regs old i) (next_cells old i)) given (sim s inputs old.regs.items old.cells.items shows fits).1))
+    (subst (λ i. Shows m layout (next m s inputs) (next_regs old i) (next_cells old i)) given (sim s inputs old.regs.items old.cells.items shows fits).2))
 
 pub returns-clause-simulates : goal.returns-clause-simulates
 returns-clause-simulates c = λ m layout sim.
