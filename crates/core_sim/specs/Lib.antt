@@ -1,0 +1,5 @@
+pub mod Joint
+pub mod Lines
+pub mod Ends
+pub mod Over
+pub mod Bench

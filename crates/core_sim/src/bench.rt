@@ -1,0 +1,98 @@
+ghost use Rattle.std.specs.Prelude.{◌≡◌, ◌<◌, IfOk, length};
+ghost use Rattle.bus_law.specs.Memory.{IsMemory};
+ghost use Rattle.verilog_mean.specs.Checked.{IsChecked};
+ghost use Rattle.verilog_mean.specs.Cycle.{value};
+ghost use Rattle.verilog_mean.specs.Erase.{plain_tree};
+ghost use Rattle.verilog_mean.specs.Plain.{Plain};
+ghost use Rattle.core_sim.specs.Joint.{Joint, joint_inputs, joint_next, joint_start, reset_in};
+ghost use Rattle.core_sim.specs.Bench.{HasPassed, IsBench, IsCore, IsReady, event_in};
+
+use crate::event::Event;
+use crate::ports::{InputPort, Places, drive, input_ports};
+use bus_law::{Answerer, Mem};
+use std::alloc::{AllocError, Global};
+use verilog_mean::Checked;
+use verilog_sim::TreeSim;
+
+/// A test bench: the simulator of a core and its buses, joined port by port.
+#[derive(Drop)]
+pub struct Bench {
+    pub sim: TreeSim,
+    pub buses: Answerer,
+    pub inputs: Vec<InputPort>,
+    pub places: Places,
+    pub ins: Vec<u64>,
+    pub outs: Vec<u64>,
+}
+
+impl Bench {
+    /// A bench in cycle 0, with contents that are all 0. It takes all the memory that a run needs.
+    pub fn new(
+        alloc: Global,
+        checked: &Checked,
+        mem: Mem,
+        delays: Vec<u32>,
+    ) -> Result<Bench, AllocError>
+        requires checked { IsChecked checked.now }
+        requires core { IsCore (plain_tree checked.now.tree) }
+        requires delays { 0 < length delays.items }
+        ensures ready { IfOk result (λ b. IsReady b) }
+        ensures memory { IsMemory mem }
+        ensures bench { IfOk result (λ b. IsBench (plain_tree checked.now.tree) (joint_start (plain_tree checked.now.tree) mem delays.items) b) }
+    {
+        // By its contract the memory is one of a system.
+        let _base = mem.base();
+        let ports = checked.tree.ports.items().as_slice();
+        let sim = TreeSim::new(alloc, checked)?;
+        let inputs = input_ports(alloc, ports)?;
+        let ins = Vec::from_elem(alloc, 0u64, sim.flat.ins)?;
+        let outs = Vec::from_elem(alloc, 0u64, sim.flat.outs.len())?;
+        Ok(Bench {
+            sim,
+            buses: Answerer::new(mem, delays),
+            inputs,
+            places: Places::among(ports),
+            ins,
+            outs,
+        })
+    }
+
+    /// One cycle of this number, from 0 on. Answers the event that the core tells in it.
+    pub fn cycle(&mut self, number: u64) -> Option<Event>
+        requires { IsReady self.old }
+        ensures ready { IsReady self.new }
+        ensures event { (m : Plain) (j : Joint) → IsCore m → IsBench m j self.old → result ≡ event_in number (value m j.core (joint_inputs number j)) }
+        ensures next { (m : Plain) (j : Joint) → IsCore m → IsBench m j self.old → IsBench m (joint_next m number j) self.new }
+    {
+        self.step(number);
+        if number == 0 {
+            return None;
+        }
+        self.places.event(self.outs.as_slice())
+    }
+
+    /// Gives the core what the buses drive, and the buses what the core drives, and passes the edge of the clock.
+    fn step(&mut self, number: u64)
+        requires { IsReady self.old }
+        ensures ready { IsReady self.new }
+        ensures passed { (m : Plain) (j : Joint) → IsCore m → IsBench m j self.old → HasPassed m number j self.new }
+    {
+        let driven = self.buses.drive();
+        drive(
+            self.inputs.as_slice(),
+            reset_in(number),
+            &driven,
+            self.ins.as_mut_slice(),
+        );
+        self.sim.step(self.ins.as_slice(), &mut self.outs);
+        let out = self.places.bus_out(self.outs.as_slice());
+        self.buses.step(out);
+    }
+}
+
+/// The reset of a cycle: 1 in cycle 0 alone.
+fn reset_in(number: u64) -> u64
+    ensures { result ≡ reset_in number }
+{
+    if number == 0 { 1 } else { 0 }
+}

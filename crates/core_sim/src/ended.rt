@@ -1,0 +1,56 @@
+use thiserror::Error;
+
+/// What a run is to do: whether it writes the lines of its events, of how many cycles it is at most, and the
+/// delays, in cycles, by which the buses answer in turn.
+#[derive(Debug, Drop)]
+pub struct RunOpts {
+    pub trace: bool,
+    pub cycles: u64,
+    pub delays: Vec<u32>,
+}
+
+/// How a run ended. The cycle of the end counts in `cycles`, an event that ended it in `events`.
+#[derive(Clone, Copy, Debug, PartialEq, Eq)]
+pub enum Ended {
+    /// The program asked for its end with this code. It cannot do so yet.
+    Exit {
+        code: u32,
+        events: u64,
+        cycles: u64,
+    },
+    /// A trap stopped the core.
+    Stopped {
+        cause: u32,
+        pc: u32,
+        events: u64,
+        cycles: u64,
+    },
+    /// As many cycles passed as the run was to have.
+    CyclesEnded {
+        events: u64,
+        cycles: u64,
+    },
+}
+
+/// A bus of the core.
+#[derive(Clone, Copy, Debug, PartialEq, Eq)]
+pub enum BusName {
+    /// The instruction bus.
+    Ib,
+    /// The data bus.
+    Db,
+}
+
+/// Why a run has no end.
+#[derive(Clone, Copy, Debug, PartialEq, Eq, Error)]
+pub enum SimRefusal {
+    /// The core broke a duty on a bus in this cycle. No run answers so yet.
+    #[error("the core broke a duty on a bus")]
+    Breach { cycle: u64, bus: BusName, duty: u32 },
+    /// A push of a line failed.
+    #[error("a line could not be written")]
+    WriteFault,
+    /// Memory ran out before the first line.
+    #[error("no memory")]
+    NoMemory,
+}

@@ -1,0 +1,126 @@
+ghost use Rattle.std.specs.Prelude.{◌≡◌, ◌≤◌, ◌<◌, ◌⊎◌, ℕ, Err, IfOk, IfErr, List, OnErr, OnOk, length};
+ghost use Rattle.core_host.specs.declared.host.Port.{Port};
+ghost use Rattle.core_host.specs.declared.host.Port.TheVariants.{Main};
+ghost use Rattle.core_host.specs.Outside.{Rose, Appends, IsCut};
+ghost use Rattle.bus_law.specs.Memory.{Memory};
+ghost use Rattle.verilog_mean.specs.Checked.{IsChecked};
+ghost use Rattle.verilog_mean.specs.CorePorts.{HasCorePorts};
+ghost use Rattle.verilog_mean.specs.Erase.{plain_tree};
+ghost use Rattle.verilog_mean.specs.Plain.{Plain};
+ghost use Rattle.core_sim.specs.Bench.{IsBench, IsCore, IsReady, shown};
+ghost use Rattle.core_sim.specs.Joint.{joint_start, run_of};
+ghost use Rattle.core_sim.specs.Ends.{end_of, run_text};
+ghost use Rattle.core_sim.specs.Over.{IsOverBuses};
+
+use crate::bench::Bench;
+use crate::ended::{Ended, RunOpts, SimRefusal};
+use crate::event::Event;
+use crate::line::line_of;
+use bus_law::Mem;
+use core_host::{Host, HostFailed, Port, push_all};
+use std::alloc::Global;
+use verilog_mean::Checked;
+
+/// Runs a core over buses that answer as this memory, from contents that are all 0, until an event stops it or
+/// its cycles have passed, and pushes the lines of its events on the main port where they are wanted. Memory is
+/// taken before the first line alone.
+pub fn run_tree<H: Host>(
+    alloc: Global,
+    checked: &Checked,
+    mem: Mem,
+    opts: RunOpts,
+    host: &mut H,
+) -> Result<Ended, SimRefusal>
+    requires checked { IsChecked checked.now }
+    requires ports { HasCorePorts (plain_tree checked.now.tree) }
+    requires delays { 0 < length opts.delays.items }
+    ensures end { IfOk result (λ e. e ≡ end_of (run_of (plain_tree checked.now.tree) mem opts.delays.items) opts.cycles) }
+    ensures text { OnOk result (Appends (H.pushed host.old Main)
+        (run_text opts.trace (run_of (plain_tree checked.now.tree) mem opts.delays.items) opts.cycles) (H.pushed host.new Main)) }
+    ensures cut { result ≡ Err SimRefusal.WriteFault → IsCut (H.pushed host.old Main)
+        (run_text opts.trace (run_of (plain_tree checked.now.tree) mem opts.delays.items) opts.cycles) (H.pushed host.new Main) }
+    ensures cause { result ≡ Err SimRefusal.WriteFault → Rose (H.write_faults host.old) (H.write_faults host.new) }
+    ensures empty { result ≡ Err SimRefusal.NoMemory → H.pushed host.new Main ≡ H.pushed host.old Main }
+    ensures refusals { IfErr result (λ r. (r ≡ SimRefusal.WriteFault) ⊎ (r ≡ SimRefusal.NoMemory)) }
+    ensures over { ¬ (result ≡ Err SimRefusal.NoMemory) → IsOverBuses (plain_tree checked.now.tree) mem opts.delays.items }
+    ensures others { (p : Port) → ¬ (p ≡ Main) → H.pushed host.new p ≡ H.pushed host.old p }
+    ensures left { (m : ℕ) → H.left host.new m ≡ H.left host.old m }
+    ensures files { H.files host.new ≡ H.files host.old }
+    ensures numbers { (m : ℕ) → H.given host.old m → H.given host.new m }
+    ensures names { (m : ℕ) → H.given host.old m → H.opened host.new m ≡ H.opened host.old m }
+    ensures reads { H.read_faults host.old ≤ H.read_faults host.new }
+    ensures writes { H.write_faults host.old ≤ H.write_faults host.new }
+{
+    let mut bench = match Bench::new(alloc, checked, mem, opts.delays) {
+        Ok(bench) => bench,
+        Err(_) => return Err(SimRefusal::NoMemory),
+    };
+    match run_cycles(&mut bench, opts.trace, opts.cycles, host) {
+        Ok(end) => Ok(end),
+        Err(_) => Err(SimRefusal::WriteFault),
+    }
+}
+
+/// Runs a bench from cycle 0 on.
+fn run_cycles<H: Host>(
+    bench: &mut Bench,
+    trace: bool,
+    cycles: u64,
+    host: &mut H,
+) -> Result<Ended, HostFailed>
+    requires { IsReady bench.old }
+    ensures end { IfOk result (λ e. (m : Plain) (memory : Memory) (delays : List ℕ) → IsCore m → IsBench m (joint_start m memory delays) bench.old
+        → e ≡ end_of (run_of m memory delays) cycles) }
+    ensures whole { OnOk result ((m : Plain) (memory : Memory) (delays : List ℕ) → IsCore m → IsBench m (joint_start m memory delays) bench.old
+        → Appends (H.pushed host.old Main) (run_text trace (run_of m memory delays) cycles) (H.pushed host.new Main)) }
+    ensures part { OnErr result ((m : Plain) (memory : Memory) (delays : List ℕ) → IsCore m → IsBench m (joint_start m memory delays) bench.old
+        → IsCut (H.pushed host.old Main) (run_text trace (run_of m memory delays) cycles) (H.pushed host.new Main)) }
+    ensures cause { OnErr result (Rose (H.write_faults host.old) (H.write_faults host.new)) }
+    ensures others { (p : Port) → ¬ (p ≡ Main) → H.pushed host.new p ≡ H.pushed host.old p }
+    ensures left { (m : ℕ) → H.left host.new m ≡ H.left host.old m }
+    ensures files { H.files host.new ≡ H.files host.old }
+    ensures numbers { (m : ℕ) → H.given host.old m → H.given host.new m }
+    ensures names { (m : ℕ) → H.given host.old m → H.opened host.new m ≡ H.opened host.old m }
+    ensures reads { H.read_faults host.old ≤ H.read_faults host.new }
+    ensures writes { H.write_faults host.old ≤ H.write_faults host.new }
+{
+    let mut events: u64 = 0;
+    for cycle in 0..cycles {
+        let told = bench.cycle(cycle);
+        push_event(host, trace, told)?;
+        if let Some(event) = told {
+            events += 1;
+            if event.kind == 3 {
+                return Ok(Ended::Stopped {
+                    cause: event.cause,
+                    pc: event.pc,
+                    events,
+                    cycles: cycle + 1,
+                });
+            }
+        }
+    }
+    Ok(Ended::CyclesEnded { events, cycles })
+}
+
+/// Pushes the line of an event on the main port, where it is wanted and there is one.
+fn push_event<H: Host>(host: &mut H, trace: bool, event: Option<Event>) -> Result<(), HostFailed>
+    ensures whole { OnOk result (Appends (H.pushed host.old Main) (shown trace event) (H.pushed host.new Main)) }
+    ensures part { OnErr result (IsCut (H.pushed host.old Main) (shown trace event) (H.pushed host.new Main)) }
+    ensures cause { OnErr result (Rose (H.write_faults host.old) (H.write_faults host.new)) }
+    ensures others { (p : Port) → ¬ (p ≡ Main) → H.pushed host.new p ≡ H.pushed host.old p }
+    ensures left { (m : ℕ) → H.left host.new m ≡ H.left host.old m }
+    ensures files { H.files host.new ≡ H.files host.old }
+    ensures numbers { (m : ℕ) → H.given host.old m → H.given host.new m }
+    ensures names { (m : ℕ) → H.given host.old m → H.opened host.new m ≡ H.opened host.old m }
+    ensures reads { H.read_faults host.old ≤ H.read_faults host.new }
+    ensures writes { H.write_faults host.old ≤ H.write_faults host.new }
+{
+    if !trace {
+        return Ok(());
+    }
+    match event {
+        Some(event) => push_all(host, Port::Main, line_of(&event).as_slice()),
+        None => Ok(()),
+    }
+}
