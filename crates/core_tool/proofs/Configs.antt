@@ -12,7 +12,7 @@ use Rattle.core_tool.specs.declared.config.ConfigRefusal.TheVariants.{TooLong, T
 use Rattle.core_tool.specs.declared.config.ConfigError.{ConfigError}
 use Rattle.core_tool.specs.declared.config.ConfigError.TheVariants.{Refused, NoMemory}
 use Rattle.core_tool.specs.Config.{config_of, config_of_document, config_end, first_refusal, reset_pc_of, reset_pc_of_value, reset_pc_of_integer, reset_pc_name, unless_other}
-use Rattle.core_tool.specs.Call.{IsResetPc}
+use Rattle.core_tool.specs.Files.{IsResetPc}
 
 -- the answer is this one, or memory is wanting
 abbrev pub IsAnswer : Result ℕ ConfigError → Result ℕ ConfigRefusal → Type 0

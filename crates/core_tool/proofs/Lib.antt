@@ -1,3 +1,8 @@
 pub mod Keys
 pub mod Configs
 pub mod Calls
+pub mod OptionWords
+pub mod Pieces
+pub mod Runs
+pub mod CallEnds
+pub mod Statuses

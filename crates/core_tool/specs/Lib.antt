@@ -1,4 +1,9 @@
 pub mod Status
+pub mod Options
 pub mod Words
 pub mod Config
+pub mod Lines
+pub mod Files
+pub mod CoreRun
+pub mod Parts
 pub mod Call

@@ -1,21 +1,29 @@
-ghost use Rattle.std.specs.Prelude.{◌≡◌, ◌≤◌, ◌⊎◌, ℕ, List, Some, None, Ok, IsErr};
+ghost use Rattle.std.specs.Prelude.{◌≡◌, ◌≤◌, ◌⊎◌, ℕ, List, Some, None, Ok, Err, IsErr, IfOk, IfErr, length};
 ghost use Rattle.core_host.specs.declared.host.Port.{Port};
 ghost use Rattle.core_host.specs.declared.host.Port.TheVariants.{Main, Notes};
 ghost use Rattle.core_host.specs.Outside.{Rose, Appends};
+ghost use Rattle.core_sim.specs.declared.ended.Ended.TheVariants as run_end;
 ghost use Rattle.core_tool.specs.declared.config.ConfigRefusal.{ConfigRefusal};
+ghost use Rattle.core_tool.specs.declared.ends.ImageFault.{ImageFault};
 ghost use Rattle.core_tool.specs.Config.{config_of};
-ghost use Rattle.core_tool.specs.Words.{Gen, form_of, words_of};
-ghost use Rattle.core_tool.specs.Call.{Ends, Gives, GotText, GotCutText, HasLine, Holds, IsAnswered, IsCutLine, IsEnd, IsRefusedAs, IsUnlessCut, IsUnread, Misses, Pulled, refusal_line};
+ghost use Rattle.core_tool.specs.Words.{Gen, Run, form_of, words_of};
+ghost use Rattle.core_tool.specs.Lines.{cycles_line, image_line, refusal_line, stopped_line};
+ghost use Rattle.core_tool.specs.Files.{Gives, Holds, HoldsImage, IsImageRefusedAs, IsRefusedAs, IsResetPc, IsUnread, Misses, MissesFile, Pulled, image_fault, image_name};
+ghost use Rattle.core_tool.specs.Parts.{ForBytes, IsConfigEnd, PulledOne};
+ghost use Rattle.core_tool.specs.Call.{Ends, GotCutText, GotRun, HasLine, HasNoText, IsAnswered, IsCutLine, IsEnd, IsGen, IsGenText, IsRunStatus, IsUnlessCut};
 
+use crate::Status;
 use crate::config::{CONFIG_LIMIT, ConfigError, read_config};
 use crate::ends::{CallEnd, push_line};
-use crate::{Form, Status};
+use crate::options::Options;
+use crate::run::{load, own_tree, simulate};
+use crate::words::Form;
 use core_host::{Host, ReadEnd, read_file};
 use fixed_core::push_core;
 use std::alloc::Global;
 
 /// Does what the words ask for, without the program's name among them, and writes a line on the
-/// port of notes that says how it ended, unless all went well or the text was cut off.
+/// port of notes that says how it ended, unless a core was written or a text was cut off.
 pub fn core_main<H: Host>(alloc: Global, words: &Vec<String>, host: &mut H) -> Status
     // There is an end that has its cause, and the ports are as it says. What follows says the
     // same status by status, and what stays as it was.
@@ -31,31 +39,53 @@ pub fn core_main<H: Host>(alloc: Global, words: &Vec<String>, host: &mut H) -> S
     ensures refused { (bytes : List ℕ) → Holds (form_of (words_of words.now)) (H.files host.old) bytes
         → IsErr (config_of bytes) → ¬ (Rose (H.read_faults host.old) (H.read_faults host.new))
         → IsUnlessCut Status.ConfigRefused result }
+    ensures image_only { result ≡ Status.ImageRefused → (fault : ImageFault)
+        × IsImageRefusedAs (form_of (words_of words.now)) (H.files host.old) fault
+        × Appends (H.pushed host.old Notes) (image_line fault) (H.pushed host.new Notes) }
+    ensures image { (bytes image : List ℕ) → (reset_pc : ℕ) → (fault : ImageFault)
+        → Holds (form_of (words_of words.now)) (H.files host.old) bytes → config_of bytes ≡ Ok reset_pc
+        → HoldsImage (form_of (words_of words.now)) (H.files host.old) image → image_fault image ≡ Some fault
+        → ¬ (Rose (H.read_faults host.old) (H.read_faults host.new))
+        → IsUnlessCut Status.ImageRefused result }
     ensures fault_only { result ≡ Status.ReadFault →
         IsUnread (form_of (words_of words.now)) (H.files host.old) (H.read_faults host.old) (H.read_faults host.new) }
     ensures fault { Misses (form_of (words_of words.now)) (H.files host.old) → IsUnlessCut Status.ReadFault result }
+    ensures image_missing { (bytes : List ℕ) → (reset_pc : ℕ)
+        → Holds (form_of (words_of words.now)) (H.files host.old) bytes → config_of bytes ≡ Ok reset_pc
+        → MissesFile (image_name (form_of (words_of words.now))) (H.files host.old) → IsUnlessCut Status.ReadFault result }
     ensures write_only { result ≡ Status.WriteFault → Rose (H.write_faults host.old) (H.write_faults host.new) }
-    ensures done_only { result ≡ Status.Done → (reset_pc : ℕ)
-        × Gives (form_of (words_of words.now)) (H.files host.old) reset_pc
-        × GotText reset_pc (H.pushed host.old Main) (H.pushed host.new Main) }
-    ensures complete { (bytes : List ℕ) → (reset_pc : ℕ)
+    ensures done_only { result ≡ Status.Done → (text : List ℕ)
+        × IsGenText (form_of (words_of words.now)) (H.files host.old) text
+        × Appends (H.pushed host.old Main) text (H.pushed host.new Main) }
+    ensures cycles_only { result ≡ Status.CyclesEnded → (events cycles : ℕ)
+        × GotRun (form_of (words_of words.now)) (H.files host.old) (run_end.CyclesEnded events cycles)
+        (H.pushed host.old Main) (H.pushed host.new Main)
+        × Appends (H.pushed host.old Notes) (cycles_line events cycles) (H.pushed host.new Notes) }
+    ensures stopped_only { result ≡ Status.Stopped → (cause pc events cycles : ℕ)
+        × GotRun (form_of (words_of words.now)) (H.files host.old) (run_end.Stopped cause pc events cycles)
+        (H.pushed host.old Main) (H.pushed host.new Main)
+        × Appends (H.pushed host.old Notes) (stopped_line cause pc events cycles) (H.pushed host.new Notes) }
+    ensures complete { (bytes : List ℕ) → (reset_pc : ℕ) → IsGen (form_of (words_of words.now))
         → Holds (form_of (words_of words.now)) (H.files host.old) bytes → config_of bytes ≡ Ok reset_pc
         → ¬ (Rose (H.read_faults host.old) (H.read_faults host.new))
         → ¬ (Rose (H.write_faults host.old) (H.write_faults host.new))
         → (result ≡ Status.Done) ⊎ (result ≡ Status.NoMemory) }
-    ensures empty { ¬ (result ≡ Status.Done) → ¬ (result ≡ Status.WriteFault)
-        → H.pushed host.new Main ≡ H.pushed host.old Main }
-    ensures cut { result ≡ Status.WriteFault → (H.pushed host.new Main ≡ H.pushed host.old Main)
-        ⊎ ((reset_pc : ℕ)
-        × Gives (form_of (words_of words.now)) (H.files host.old) reset_pc
-        × GotCutText reset_pc (H.pushed host.old Main) (H.pushed host.new Main)) }
+    ensures run_complete { (bytes image : List ℕ) → (reset_pc : ℕ)
+        → Holds (form_of (words_of words.now)) (H.files host.old) bytes → config_of bytes ≡ Ok reset_pc
+        → HoldsImage (form_of (words_of words.now)) (H.files host.old) image → length image ≤ 65536
+        → ¬ (Rose (H.read_faults host.old) (H.read_faults host.new))
+        → ¬ (Rose (H.write_faults host.old) (H.write_faults host.new))
+        → IsRunStatus result }
+    ensures empty { HasNoText result → H.pushed host.new Main ≡ H.pushed host.old Main }
+    ensures cut { result ≡ Status.WriteFault →
+        GotCutText (form_of (words_of words.now)) (H.files host.old) (H.pushed host.old Main) (H.pushed host.new Main) }
     ensures notes { ¬ (result ≡ Status.WriteFault)
         → HasLine result (H.pushed host.old Notes) (H.pushed host.new Notes) }
-    // Where the text is cut off there is no line, and where the line is cut off there is no text.
+    // Where the text is cut off there is no line, and where the line is cut off the text is as its end says.
     ensures cut_notes { result ≡ Status.WriteFault → (H.pushed host.new Notes ≡ H.pushed host.old Notes)
         ⊎ IsCutLine (form_of (words_of words.now)) (H.files host.old) (H.read_faults host.old) (H.read_faults host.new)
         (H.pushed host.old Main) (H.pushed host.new Main) (H.pushed host.old Notes) (H.pushed host.new Notes) }
-    ensures pulled { Pulled 1048577 (form_of (words_of words.now)) (H.files host.old) (H.left host.old) (H.left host.new)
+    ensures pulled { Pulled (form_of (words_of words.now)) (H.files host.old) (H.left host.old) (H.left host.new)
         (H.read_faults host.old) (H.read_faults host.new) }
     ensures files { H.files host.new ≡ H.files host.old }
     ensures numbers { (m : ℕ) → H.given host.old m → H.given host.new m }
@@ -76,7 +106,7 @@ fn work<H: Host>(alloc: Global, words: &Vec<String>, host: &mut H) -> CallEnd
         (H.read_faults host.old) (H.read_faults host.new) (H.write_faults host.old) (H.write_faults host.new)
         (H.pushed host.old Main) (H.pushed host.new Main) result }
     ensures notes { H.pushed host.new Notes ≡ H.pushed host.old Notes }
-    ensures pulled { Pulled 1048577 (form_of (words_of words.now)) (H.files host.old) (H.left host.old) (H.left host.new)
+    ensures pulled { Pulled (form_of (words_of words.now)) (H.files host.old) (H.left host.old) (H.left host.new)
         (H.read_faults host.old) (H.read_faults host.new) }
     ensures files { H.files host.new ≡ H.files host.old }
     ensures numbers { (m : ℕ) → H.given host.old m → H.given host.new m }
@@ -86,6 +116,13 @@ fn work<H: Host>(alloc: Global, words: &Vec<String>, host: &mut H) -> CallEnd
 {
     match Form::of(words) {
         Some(Form::Gen { name }) => generate(alloc, name, host),
+        Some(
+            Form::Run {
+                config,
+                image,
+                options,
+            },
+        ) => run(alloc, config, image, options, host),
         None => CallEnd::BadWords,
     }
 }
@@ -96,8 +133,61 @@ fn generate<H: Host>(alloc: Global, name: &str, host: &mut H) -> CallEnd
         (H.read_faults host.old) (H.read_faults host.new) (H.write_faults host.old) (H.write_faults host.new)
         (H.pushed host.old Main) (H.pushed host.new Main) result }
     ensures notes { H.pushed host.new Notes ≡ H.pushed host.old Notes }
-    ensures pulled { Pulled 1048577 (Some (Gen name.now)) (H.files host.old) (H.left host.old) (H.left host.new)
+    ensures pulled { Pulled (Some (Gen name.now)) (H.files host.old) (H.left host.old) (H.left host.new)
         (H.read_faults host.old) (H.read_faults host.new) }
+    ensures files { H.files host.new ≡ H.files host.old }
+    ensures numbers { (m : ℕ) → H.given host.old m → H.given host.new m }
+    ensures names { (m : ℕ) → H.given host.old m → H.opened host.new m ≡ H.opened host.old m }
+    ensures reads { H.read_faults host.old ≤ H.read_faults host.new }
+    ensures writes { H.write_faults host.old ≤ H.write_faults host.new }
+{
+    let reset_pc = match configure(alloc, name, host) {
+        Ok(reset_pc) => reset_pc,
+        Err(end) => return end,
+    };
+    match push_core(host, reset_pc) {
+        Ok(()) => CallEnd::Written,
+        Err(_) => CallEnd::Unwritten,
+    }
+}
+
+/// Runs the core of a configuration over an image, both of these names.
+fn run<H: Host>(alloc: Global, config: &str, image: &str, options: Options, host: &mut H) -> CallEnd
+    ensures ends { IsEnd (Some (Run config.now image.now options)) (H.files host.old)
+        (H.read_faults host.old) (H.read_faults host.new) (H.write_faults host.old) (H.write_faults host.new)
+        (H.pushed host.old Main) (H.pushed host.new Main) result }
+    ensures notes { H.pushed host.new Notes ≡ H.pushed host.old Notes }
+    ensures pulled { Pulled (Some (Run config.now image.now options)) (H.files host.old) (H.left host.old) (H.left host.new)
+        (H.read_faults host.old) (H.read_faults host.new) }
+    ensures files { H.files host.new ≡ H.files host.old }
+    ensures numbers { (m : ℕ) → H.given host.old m → H.given host.new m }
+    ensures names { (m : ℕ) → H.given host.old m → H.opened host.new m ≡ H.opened host.old m }
+    ensures reads { H.read_faults host.old ≤ H.read_faults host.new }
+    ensures writes { H.write_faults host.old ≤ H.write_faults host.new }
+{
+    let reset_pc = match configure(alloc, config, host) {
+        Ok(reset_pc) => reset_pc,
+        Err(end) => return end,
+    };
+    let memory = match load(alloc, image, host) {
+        Ok(memory) => memory,
+        Err(end) => return end,
+    };
+    let checked = match own_tree(alloc, reset_pc) {
+        Ok(checked) => checked,
+        Err(_) => return CallEnd::OutOfMemory,
+    };
+    simulate(alloc, &checked, memory, options, host)
+}
+
+/// Reads the configuration of that name, and answers its reset pc.
+fn configure<H: Host>(alloc: Global, name: &str, host: &mut H) -> Result<u32, CallEnd>
+    ensures reset_pc { IfOk result (λ n. IsResetPc n) }
+    ensures given { IfOk result (λ n. ForBytes name.now (H.files host.old) (λ bytes. config_of bytes ≡ Ok n)) }
+    ensures ends { IfErr result (λ e. IsConfigEnd name.now (H.files host.old) (H.read_faults host.old) (H.read_faults host.new) e) }
+    ensures pulled { PulledOne 1048577 name.now (H.files host.old) (H.left host.old) (H.left host.new)
+        (H.read_faults host.old) (H.read_faults host.new) }
+    ensures ports { (p : Port) → H.pushed host.new p ≡ H.pushed host.old p }
     ensures files { H.files host.new ≡ H.files host.old }
     ensures numbers { (m : ℕ) → H.given host.old m → H.given host.new m }
     ensures names { (m : ℕ) → H.given host.old m → H.opened host.new m ≡ H.opened host.old m }
@@ -106,16 +196,12 @@ fn generate<H: Host>(alloc: Global, name: &str, host: &mut H) -> CallEnd
 {
     let bytes = match read_file(alloc, host, name, CONFIG_LIMIT) {
         Ok(bytes) => bytes,
-        Err(ReadEnd::Fault) => return CallEnd::BadFile,
-        Err(ReadEnd::NoMemory) => return CallEnd::OutOfMemory,
+        Err(ReadEnd::Fault) => return Err(CallEnd::BadFile),
+        Err(ReadEnd::NoMemory) => return Err(CallEnd::OutOfMemory),
     };
-    let reset_pc = match read_config(alloc, &bytes) {
-        Ok(reset_pc) => reset_pc,
-        Err(ConfigError::Refused(refusal)) => return CallEnd::Refused(refusal),
-        Err(ConfigError::NoMemory) => return CallEnd::OutOfMemory,
-    };
-    match push_core(host, reset_pc) {
-        Ok(()) => CallEnd::Written,
-        Err(_) => CallEnd::Unwritten,
+    match read_config(alloc, &bytes) {
+        Ok(reset_pc) => Ok(reset_pc),
+        Err(ConfigError::Refused(refusal)) => Err(CallEnd::Refused(refusal)),
+        Err(ConfigError::NoMemory) => Err(CallEnd::OutOfMemory),
     }
 }

@@ -2,11 +2,12 @@ ghost use Rattle.std.specs.Prelude.{◌≡◌, ◌≤◌, ℕ, OnOk, OnErr};
 ghost use Rattle.core_host.specs.declared.host.Port.{Port};
 ghost use Rattle.core_host.specs.declared.host.Port.TheVariants.{Notes};
 ghost use Rattle.core_host.specs.Outside.{Rose, Appends, IsCut};
-ghost use Rattle.core_tool.specs.Call.{line_of, refusal_line, want_ending, status_of, bytes_of};
+ghost use Rattle.core_tool.specs.Lines.{joined, line_of, refusal_line, status_of, stopped_line, want_ending};
 
 use crate::Status;
 use crate::config::{ConfigRefusal, Want};
-use core_host::{Host, HostFailed, Port, push_all};
+use crate::lines::{Piece, push_pieces};
+use core_host::{Host, HostFailed, Port};
 
 /// How the work of a call ended, before its line is written.
 #[derive(Debug, Drop)]
@@ -17,11 +18,34 @@ pub enum CallEnd {
     BadWords,
     /// The configuration is refused.
     Refused(ConfigRefusal),
-    /// The file was not found or not read.
+    /// The image is refused.
+    BadImage(ImageFault),
+    /// A file was not found or not read.
     BadFile,
     OutOfMemory,
     /// A push of the text failed.
     Unwritten,
+    /// As many cycles passed as the run was to have.
+    CyclesEnded {
+        events: u64,
+        cycles: u64,
+    },
+    /// A trap stopped the core.
+    Stopped {
+        cause: u32,
+        pc: u32,
+        events: u64,
+        cycles: u64,
+    },
+}
+
+/// Why an image is refused.
+#[derive(Clone, Copy, Debug, PartialEq, Eq)]
+pub enum ImageFault {
+    /// It has more bytes than any image may have.
+    TooLong,
+    /// It has a byte for this address, the first behind memory.
+    Outside { addr: u32 },
 }
 
 impl CallEnd {
@@ -33,77 +57,17 @@ impl CallEnd {
             CallEnd::Written => Status::Done,
             CallEnd::BadWords => Status::Usage,
             CallEnd::Refused(_) => Status::ConfigRefused,
+            CallEnd::BadImage(_) => Status::ImageRefused,
             CallEnd::BadFile => Status::ReadFault,
             CallEnd::OutOfMemory => Status::NoMemory,
             CallEnd::Unwritten => Status::WriteFault,
-        }
-    }
-
-    /// The line that says how the call ended: none where it wrote or was to write a text.
-    fn line(&self) -> Line<'_>
-        ensures { bytes_of result ≡ line_of self.now }
-    {
-        match self {
-            CallEnd::Written | CallEnd::Unwritten => Line::fixed(""),
-            CallEnd::BadWords => Line::fixed("usage\n"),
-            CallEnd::Refused(refusal) => refusal_line_of(refusal),
-            CallEnd::BadFile => Line::fixed("read fault\n"),
-            CallEnd::OutOfMemory => Line::fixed("no memory\n"),
+            CallEnd::CyclesEnded { .. } => Status::CyclesEnded,
+            CallEnd::Stopped { .. } => Status::Stopped,
         }
     }
 }
 
-/// The pieces of a line, so that it takes no memory to write it.
-#[derive(Clone, Copy)]
-struct Line<'a> {
-    before: &'a str,
-    key: &'a str,
-    after: &'a str,
-}
-
-impl<'a> Line<'a> {
-    fn fixed(text: &'a str) -> Line<'a>
-        ensures { bytes_of result ≡ text.now }
-    {
-        Line {
-            before: text,
-            key: "",
-            after: "",
-        }
-    }
-}
-
-/// The line that says why a configuration is refused.
-fn refusal_line_of(refusal: &ConfigRefusal) -> Line<'_>
-    ensures { bytes_of result ≡ refusal_line refusal.now }
-{
-    match refusal {
-        ConfigRefusal::TooLong => Line::fixed("config long\n"),
-        ConfigRefusal::Text => Line::fixed("config text\n"),
-        ConfigRefusal::Shape { key, want } => Line {
-            before: "config shape key=",
-            key: key.text().as_str(),
-            after: ending(*want),
-        },
-        ConfigRefusal::Range { key } => Line {
-            before: "config range key=",
-            key: key.text().as_str(),
-            after: "\n",
-        },
-    }
-}
-
-/// The end of a line that says what is wanted of a key.
-fn ending(want: Want) -> &'static str
-    ensures { result.now ≡ want_ending want }
-{
-    match want {
-        Want::Integer => " want=integer\n",
-        Want::NoKey => " want=nokey\n",
-    }
-}
-
-/// Pushes the line of an end on the port of notes, in pieces. It takes no memory.
+/// Pushes the line of an end on the port of notes: none where it wrote or was to write a text. It takes no memory.
 pub fn push_line<H: Host>(host: &mut H, end: &CallEnd) -> Result<(), HostFailed>
     ensures whole { OnOk result (Appends (H.pushed host.old Notes) (line_of end.now) (H.pushed host.new Notes)) }
     ensures part { OnErr result (IsCut (H.pushed host.old Notes) (line_of end.now) (H.pushed host.new Notes)) }
@@ -116,8 +80,91 @@ pub fn push_line<H: Host>(host: &mut H, end: &CallEnd) -> Result<(), HostFailed>
     ensures reads { H.read_faults host.old ≤ H.read_faults host.new }
     ensures writes { H.write_faults host.old ≤ H.write_faults host.new }
 {
-    let line = end.line();
-    push_all(host, Port::Notes, line.before.as_bytes())?;
-    push_all(host, Port::Notes, line.key.as_bytes())?;
-    push_all(host, Port::Notes, line.after.as_bytes())
+    match end {
+        CallEnd::Written | CallEnd::Unwritten => push_pieces(host, &[]),
+        CallEnd::BadWords => push_pieces(host, &[Piece::Text("usage\n")]),
+        CallEnd::Refused(refusal) => push_pieces(host, &refusal_pieces(refusal)),
+        CallEnd::BadFile => push_pieces(host, &[Piece::Text("read fault\n")]),
+        CallEnd::BadImage(ImageFault::TooLong) => push_pieces(host, &[Piece::Text("image long\n")]),
+        CallEnd::BadImage(ImageFault::Outside { addr }) => push_pieces(
+            host,
+            &[
+                Piece::Text("image outside addr="),
+                Piece::Hex(*addr),
+                Piece::Text("\n"),
+            ],
+        ),
+        CallEnd::OutOfMemory => push_pieces(host, &[Piece::Text("no memory\n")]),
+        CallEnd::CyclesEnded { events, cycles } => push_pieces(
+            host,
+            &[
+                Piece::Text("cycles "),
+                Piece::Decimal(*cycles),
+                Piece::Text(" events="),
+                Piece::Decimal(*events),
+                Piece::Text("\n"),
+            ],
+        ),
+        CallEnd::Stopped {
+            cause,
+            pc,
+            events,
+            cycles,
+        } => push_pieces(host, &stopped_pieces(*cause, *pc, *events, *cycles)),
+    }
+}
+
+/// The line that says why a configuration is refused.
+fn refusal_pieces(refusal: &ConfigRefusal) -> [Piece<'_>; 3]
+    ensures { joined result ≡ refusal_line refusal.now }
+{
+    match refusal {
+        ConfigRefusal::TooLong => [
+            Piece::Text("config long\n"),
+            Piece::Text(""),
+            Piece::Text(""),
+        ],
+        ConfigRefusal::Text => [
+            Piece::Text("config text\n"),
+            Piece::Text(""),
+            Piece::Text(""),
+        ],
+        ConfigRefusal::Shape { key, want } => [
+            Piece::Text("config shape key="),
+            Piece::Text(key.text().as_str()),
+            Piece::Text(ending(*want)),
+        ],
+        ConfigRefusal::Range { key } => [
+            Piece::Text("config range key="),
+            Piece::Text(key.text().as_str()),
+            Piece::Text("\n"),
+        ],
+    }
+}
+
+/// The line of a run that a trap stopped.
+fn stopped_pieces(cause: u32, pc: u32, events: u64, cycles: u64) -> [Piece<'static>; 9]
+    ensures { joined result ≡ stopped_line cause pc events cycles }
+{
+    [
+        Piece::Text("stopped cause="),
+        Piece::Hex(cause),
+        Piece::Text(" pc="),
+        Piece::Hex(pc),
+        Piece::Text(" events="),
+        Piece::Decimal(events),
+        Piece::Text(" cycles="),
+        Piece::Decimal(cycles),
+        Piece::Text("\n"),
+    ]
+}
+
+/// The end of a line that says what is wanted of a key.
+fn ending(want: Want) -> &'static str
+    ensures { result.now ≡ want_ending want }
+{
+    match want {
+        Want::Integer => " want=integer\n",
+        Want::NoKey => " want=nokey\n",
+    }
 }

@@ -4,12 +4,15 @@
 mod call;
 mod config;
 mod ends;
+mod hex;
+mod lines;
+mod options;
+mod run;
 mod status;
 mod words;
 
 pub use call::core_main;
 pub use status::Status;
-use words::Form;
 
 #[cfg(test)]
 mod tests;

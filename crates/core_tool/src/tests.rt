@@ -6,14 +6,36 @@ use std::test::Fail;
 /// The room of each port, in bytes.
 const ROOM: u32 = 33_554_432;
 
+/// ADDI x1, x0, 5; ADDI x2, x1, 7; ADD x3, x1, x2; and a word that is no instruction.
+const IMAGE: [u8; 16] = [
+    0x93, 0x00, 0x50, 0x00, 0x13, 0x81, 0x70, 0x00, 0xb3, 0x81, 0x20, 0x00, 0, 0, 0, 0,
+];
+
+/// The lines of a run of that image.
+const LINES: &str = "R pc=80000000 word=00500093 x1=00000005
+R pc=80000004 word=00708113 x2=0000000c
+R pc=80000008 word=002081b3 x3=00000011
+T pc=8000000c word=00000000 cause=00000002
+";
+
+/// A file of that name.
+fn file(alloc: Global, name: &str, bytes: &[u8]) -> Result<MemFile, AllocError> {
+    Ok(MemFile {
+        name: Name::of(String::from_str(alloc, name)?),
+        bytes: List::of(Vec::from_slice(alloc, bytes)?),
+    })
+}
+
 /// A host that holds this text as the file `c`.
 fn host(alloc: Global, text: &[u8], fails: &[u32], bite: u32) -> Result<MemHost, AllocError> {
-    let files = vec![in alloc;
-        MemFile {
-            name: Name::of(String::from_str(alloc, "c")?),
-            bytes: List::of(Vec::from_slice(alloc, text)?),
-        },
-    ]?;
+    let files = vec![in alloc; file(alloc, "c", text)?]?;
+    MemHost::new(alloc, files, Vec::from_slice(alloc, fails)?, bite, ROOM)
+}
+
+/// A host that holds a configuration as the file `c` and this image as the file `i`.
+fn run_host(alloc: Global, image: &[u8], fails: &[u32], bite: u32) -> Result<MemHost, AllocError> {
+    let config = file(alloc, "c", b"reset_pc = 0x80000000")?;
+    let files = vec![in alloc; config, file(alloc, "i", image)?]?;
     MemHost::new(alloc, files, Vec::from_slice(alloc, fails)?, bite, ROOM)
 }
 
@@ -83,6 +105,23 @@ fn refuses_words(rt: HostRuntime) -> Result<(), Fail> {
         "GEN c",
         "-",
         "c gen",
+        "run c",
+        "run c i x",
+        "run c -i",
+        "run -c i",
+        "run c i --cycles",
+        "run c i --cycles 0",
+        "run c i --cycles 100000001",
+        "run c i --cycles 00000000001",
+        "run c i --cycles +1",
+        "run c i --cycles=1",
+        "run c i --cycles 1 --cycles 1",
+        "run c i --wait",
+        "run c i --wait 1001",
+        "run c i --wait 1 --trace --wait 1",
+        "run c i --trace --trace",
+        "run c i --",
+        "run --trace c i",
     ] {
         let mut host = host(alloc, b"", &[], 0)?;
         let status = core_main(alloc, &words(alloc, text)?, &mut host);
@@ -212,6 +251,103 @@ fn ends_where_one_call_fails(rt: HostRuntime) -> Result<(), Fail> {
             notes.as_bytes(),
             "{call}"
         );
+    }
+    Ok(())
+}
+
+#[test]
+fn runs_an_image(rt: HostRuntime) -> Result<(), Fail> {
+    let alloc = rt.alloc();
+    for (text, lines, status) in [
+        ("run c i --trace", LINES, Status::Stopped),
+        ("run c i --trace --wait 1", LINES, Status::Stopped),
+        ("run c i --wait 1000 --trace", LINES, Status::Stopped),
+        (
+            "run c i --cycles 100000000 --trace --wait 0",
+            LINES,
+            Status::Stopped,
+        ),
+        ("run c i", "", Status::Stopped),
+        ("run c i --cycles 1", "", Status::CyclesEnded),
+        ("run c i --cycles 0000000001", "", Status::CyclesEnded),
+        ("run c i --trace --cycles 1", "", Status::CyclesEnded),
+    ] {
+        for bite in [0, 1] {
+            let mut host = run_host(alloc, &IMAGE, &[], bite)?;
+            let answer = core_main(alloc, &words(alloc, text)?, &mut host);
+            assert_eq!(rt; answer, status, "{text}");
+            assert_eq!(rt;
+                host.pushed(Port::Main).as_slice(),
+                lines.as_bytes(),
+                "{text}"
+            );
+            let notes = host.pushed(Port::Notes).as_slice();
+            if status == Status::CyclesEnded {
+                assert_eq!(rt; notes, b"cycles 1 events=0\n".as_slice(), "{text}");
+            } else {
+                assert!(rt;
+                    notes.starts_with(
+                        b"stopped cause=00000002 pc=8000000c events=4 cycles=".as_slice()
+                    ),
+                    "{text}"
+                );
+                assert!(rt; notes.ends_with(b"\n".as_slice()), "{text}");
+            }
+        }
+    }
+    Ok(())
+}
+
+#[test]
+fn refuses_a_long_image(rt: HostRuntime) -> Result<(), Fail> {
+    let alloc = rt.alloc();
+    let image = vec![in alloc; 0u8; 65_537]?;
+    for bite in [0, 1] {
+        let mut host = run_host(alloc, &image, &[], bite)?;
+        let status = core_main(alloc, &words(alloc, "run c i --trace")?, &mut host);
+        assert_eq!(rt; status, Status::ImageRefused);
+        assert_eq!(rt;
+            host.pushed(Port::Notes).as_slice(),
+            b"image outside addr=80010000\n".as_slice()
+        );
+        assert!(rt; host.pushed(Port::Main).is_empty());
+    }
+    Ok(())
+}
+
+#[test]
+fn looks_for_the_image_behind_an_accepted_configuration(rt: HostRuntime) -> Result<(), Fail> {
+    let alloc = rt.alloc();
+    for (text, status, line) in [
+        ("run c d", Status::ReadFault, "read fault\n"),
+        ("run d i", Status::ReadFault, "read fault\n"),
+        ("run i d", Status::ConfigRefused, "config text\n"),
+    ] {
+        let mut host = run_host(alloc, &IMAGE, &[], 0)?;
+        let answer = core_main(alloc, &words(alloc, text)?, &mut host);
+        assert_eq!(rt; answer, status, "{text}");
+        assert_eq!(rt;
+            host.pushed(Port::Notes).as_slice(),
+            line.as_bytes(),
+            "{text}"
+        );
+        assert!(rt; host.pushed(Port::Main).is_empty(), "{text}");
+    }
+    Ok(())
+}
+
+#[test]
+fn cuts_a_run_off_where_a_push_fails(rt: HostRuntime) -> Result<(), Fail> {
+    let alloc = rt.alloc();
+    // Three calls read the configuration, and three the image.
+    for push in [1, 2, 3] {
+        let mut host = run_host(alloc, &IMAGE, &[6 + push], 0)?;
+        let status = core_main(alloc, &words(alloc, "run c i --trace")?, &mut host);
+        assert_eq!(rt; status, Status::WriteFault, "{push}");
+        let pushed = host.pushed(Port::Main).as_slice();
+        assert!(rt; LINES.as_bytes().starts_with(pushed), "{push}");
+        assert!(rt; pushed.len() < LINES.len(), "{push}");
+        assert!(rt; host.pushed(Port::Notes).is_empty(), "{push}");
     }
     Ok(())
 }

@@ -1,11 +1,21 @@
-ghost use Rattle.std.specs.Prelude.{◌≡◌, option_map};
-ghost use Rattle.core_tool.specs.Words.{form_of, is_name_lem, seen, words_of};
+ghost use Rattle.std.specs.Prelude.{◌≡◌, map, option_map, string_bytes};
+ghost use Rattle.core_tool.specs.Words.{form_of, gen_of, is_name_lem, run_of, seen, words_of};
+
+use crate::options::Options;
 
 /// What the words of a call ask for.
 #[derive(Clone, Copy, Debug)]
 pub enum Form<'a> {
     /// Write the core of the configuration of this name.
-    Gen { name: &'a str },
+    Gen {
+        name: &'a str,
+    },
+    /// Run the core of a configuration over the image in a file.
+    Run {
+        config: &'a str,
+        image: &'a str,
+        options: Options,
+    },
 }
 
 impl<'a> Form<'a> {
@@ -13,14 +23,47 @@ impl<'a> Form<'a> {
     pub fn of(words: &'a Vec<String>) -> Option<Form<'a>>
         ensures { option_map seen result ≡ form_of (words_of words.now) }
     {
-        if words.len() != 2 || words[0].as_str() != "gen" {
-            return None;
+        match words.as_slice() {
+            [] => None,
+            [command, words @ ..] => {
+                if command.as_str() == "gen" {
+                    Form::of_gen(words)
+                } else if command.as_str() == "run" {
+                    Form::of_run(words)
+                } else {
+                    None
+                }
+            }
         }
-        let name = words[1].as_str();
-        if is_name(name) {
-            return Some(Form::Gen { name });
+    }
+
+    /// The form of the words behind `gen`.
+    fn of_gen(words: &'a [String]) -> Option<Form<'a>>
+        ensures { option_map seen result ≡ gen_of (map string_bytes words.now) }
+    {
+        match words {
+            [name] if is_name(name.as_str()) => Some(Form::Gen {
+                name: name.as_str(),
+            }),
+            _ => None,
         }
-        None
+    }
+
+    /// The form of the words behind `run`.
+    fn of_run(words: &'a [String]) -> Option<Form<'a>>
+        ensures { option_map seen result ≡ run_of (map string_bytes words.now) }
+    {
+        match words {
+            [config, image, words @ ..] if is_name(config.as_str()) && is_name(image.as_str()) => {
+                let options = Options::of(words)?;
+                Some(Form::Run {
+                    config: config.as_str(),
+                    image: image.as_str(),
+                    options,
+                })
+            }
+            _ => None,
+        }
     }
 }
 

@@ -1,0 +1,76 @@
+-- What the parts of a call answer: the configuration read, the image loaded, the run simulated.
+use Rattle.std.specs.Prelude.{◌≡◌, ◌⊎◌, ◌≤◌, ℕ, List, [], ◌∷◌, length, Option, Some, None, Ok, Err}
+use Rattle.core_host.specs.Outside.{Files, Rose, Appends, IsCut, IsMissing, SameButOne}
+use Rattle.bus_law.specs.Memory.{Memory}
+use Rattle.verilog_mean.specs.Plain.{Plain}
+use Rattle.core_sim.specs.declared.ended.Ended.{Ended}
+use Rattle.core_sim.specs.declared.ended.Ended.TheVariants as run_end
+use Rattle.core_sim.specs.Joint.{run_of}
+use Rattle.core_sim.specs.Ends.{end_of, run_text}
+use Rattle.core_sim.specs.Over.{IsOverBuses}
+use Rattle.core_tool.specs.declared.ends.CallEnd.{CallEnd}
+use Rattle.core_tool.specs.declared.ends.CallEnd.TheVariants.{Written, BadWords, Refused, BadFile, BadImage, OutOfMemory, Unwritten, CyclesEnded, Stopped}
+use Rattle.core_tool.specs.declared.options.Options.{Options}
+use Rattle.core_tool.specs.Config.{config_of}
+use Rattle.core_tool.specs.Files.{IsFile, PulledUnlessFault, image_fault}
+use Rattle.core_tool.specs.CoreRun.{memory_of}
+
+-- the file of that name is not read
+abbrev pub IsUnreadFile : (name : List ℕ) → Option Files → (before now : ℕ) → Type 0
+IsUnreadFile name files before now = Rose before now ⊎ IsMissing name files
+
+-- nothing was pulled of the opened files, or at most so many bytes of that one
+abbrev pub PulledOne : (most : ℕ) → (name : List ℕ) → Option Files → (old new : ℕ → List ℕ) → (before now : ℕ) → Type 0
+PulledOne most name files old new before now = ((m : ℕ) → new m ≡ old m)
+    ⊎ ((n : ℕ) × SameButOne n old new × PulledUnlessFault most name files (new n) before now)
+
+-- ---- the configuration
+
+-- P holds of the bytes of the file of that name
+abbrev pub ForBytes : (name : List ℕ) → Option Files → (P : List ℕ → Type 0) → Type 0
+ForBytes name files P = (bytes : List ℕ) × IsFile name files bytes × P bytes
+
+-- the end of a call whose configuration is not read or refused
+abbrev pub IsConfigEnd : (name : List ℕ) → Option Files → (before now : ℕ) → CallEnd → Type 0
+IsConfigEnd name files before now (Refused refusal) = ForBytes name files (λ bytes. config_of bytes ≡ Err refusal)
+IsConfigEnd name files before now BadFile = IsUnreadFile name files before now
+IsConfigEnd name files before now OutOfMemory = Unit {0}
+IsConfigEnd name files before now other = ⊥
+
+-- ---- the image
+
+-- the memory holds the image of that name
+pub record IsLoaded (name : List ℕ) (files : Option Files) (m : Memory) : Type 0 where
+  pub image : List ℕ
+  pub file : IsFile name files image
+  pub fits : length image ≤ 65536
+  pub loaded : m ≡ memory_of image
+
+-- the end of a call whose image is not read or refused
+abbrev pub IsImageEnd : (name : List ℕ) → Option Files → (before now : ℕ) → CallEnd → Type 0
+IsImageEnd name files before now (BadImage fault) = ForBytes name files (λ bytes. image_fault bytes ≡ Some fault)
+IsImageEnd name files before now BadFile = IsUnreadFile name files before now
+IsImageEnd name files before now OutOfMemory = Unit {0}
+IsImageEnd name files before now other = ⊥
+
+-- ---- the run
+
+-- a run of a tree ended so, and its text is pushed whole
+pub record IsRunOf (t : Plain) (m : Memory) (options : Options) (main main' : Option (List ℕ)) (ended : Ended) : Type 0 where
+  pub ends : ended ≡ end_of (run_of t m (options.wait ∷ [])) options.cycles
+  pub text : Appends main (run_text options.trace (run_of t m (options.wait ∷ [])) options.cycles) main'
+  pub over : IsOverBuses t m (options.wait ∷ [])
+
+-- the text of a run of a tree is cut off by a failed push
+pub record IsCutRunOf (t : Plain) (m : Memory) (options : Options) (main main' : Option (List ℕ)) (before now : ℕ) : Type 0 where
+  pub text : IsCut main (run_text options.trace (run_of t m (options.wait ∷ [])) options.cycles) main'
+  pub over : IsOverBuses t m (options.wait ∷ [])
+  pub rose : Rose before now
+
+-- the end of a call that ran a tree over a memory
+abbrev pub IsSimulated : Plain → Memory → Options → (main main' : Option (List ℕ)) → (before now : ℕ) → CallEnd → Type 0
+IsSimulated t m options main main' before now OutOfMemory = main' ≡ main
+IsSimulated t m options main main' before now Unwritten = IsCutRunOf t m options main main' before now
+IsSimulated t m options main main' before now (CyclesEnded events cycles) = IsRunOf t m options main main' (run_end.CyclesEnded events cycles)
+IsSimulated t m options main main' before now (Stopped cause pc events cycles) = IsRunOf t m options main main' (run_end.Stopped cause pc events cycles)
+IsSimulated t m options main main' before now other = ⊥
