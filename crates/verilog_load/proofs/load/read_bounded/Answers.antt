@@ -1,0 +1,10 @@
+use Rattle.std.proofs.Common.{length}
+use Rattle.tree_bounds.proofs.Trees.{text_bounded}
+use Rattle.verilog_load.proofs.Reading.{short_enough, only_memory}
+use Rattle.verilog_load.proofs.load.read_bounded.Goals as goal
+
+pub returns-in-Ok-clause-bounded : goal.returns-in-Ok-clause-bounded
+returns-in-Ok-clause-bounded c = text_bounded c.args.bytes.now c.in-Ok.tree c.in-Ok.ensures.found (short_enough (length c.args.bytes.now) c.in-Ok.tree c.in-Ok.ensures.long)
+
+pub returns-in-Err-clause-refused : goal.returns-in-Err-clause-refused
+returns-in-Err-clause-refused c = λ t short reads. only_memory c.in-Err.refusal t (c.in-Err.ensures.only t short reads)
