@@ -1,0 +1,4 @@
+pub mod Nets
+pub mod Values
+pub mod Halves
+pub mod Orders
