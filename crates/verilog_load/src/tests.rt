@@ -95,10 +95,7 @@ fn refuses_by_each_rule(rt: HostRuntime) -> Result<(), Fail> {
             "wire [7:0] w=x;wire [7:0] x=w;assign q=a;",
             MeanRefusal::NameUnknown { at: 82 },
         ),
-        (
-            "wire [7:0] w=~w;assign q=a;",
-            MeanRefusal::Loop { at: 80 },
-        ),
+        ("wire [7:0] w=~w;assign q=a;", MeanRefusal::Loop { at: 80 }),
     ] {
         let text = with_items(alloc, items)?;
         assert_eq!(rt;
