@@ -7,7 +7,6 @@
 mod bench;
 mod ended;
 mod event;
-mod hex;
 mod line;
 mod ports;
 mod run;

@@ -5,8 +5,8 @@ ghost use Rattle.core_sim.specs.Lines.{event_line, interrupted_line, register_pa
 ghost use Rattle.core_sim.specs.Bench.{port_event_of};
 
 use crate::event::Event;
-use crate::hex::hex_digits;
 use arrayvec::ArrayVec;
+use hex_text::hex_digits;
 use itoa::Buffer;
 
 /// The line of an event. It takes no memory.

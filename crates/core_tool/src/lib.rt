@@ -4,7 +4,6 @@
 mod call;
 mod config;
 mod ends;
-mod hex;
 mod lines;
 mod options;
 mod run;

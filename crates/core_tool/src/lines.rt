@@ -4,8 +4,8 @@ ghost use Rattle.core_host.specs.declared.host.Port.TheVariants.{Notes};
 ghost use Rattle.core_host.specs.Outside.{Rose, Appends, IsCut};
 ghost use Rattle.core_tool.specs.Lines.{joined, piece_bytes};
 
-use crate::hex::hex_digits;
 use core_host::{Host, HostFailed, Port, push_all};
+use hex_text::hex_digits;
 use itoa::Buffer;
 
 /// A piece of a line.

@@ -1,13 +1,12 @@
-ghost use Rattle.std.specs.Prelude.{◌≡◌, ◌≤◌, ◌<◌, ◌%◌, ◌/◌, ℕ, OnOk, OnErr};
+ghost use Rattle.std.specs.Prelude.{◌≡◌, ◌≤◌, ◌%◌, ℕ, OnOk, OnErr};
 ghost use Rattle.core_host.specs.declared.host.Port.{Port};
 ghost use Rattle.core_host.specs.declared.host.Port.TheVariants.{Main};
 ghost use Rattle.core_host.specs.Outside.{Rose, Appends, IsCut};
-ghost use Rattle.std.specs.Char.{digit_char};
-ghost use Rattle.verilog_tree.specs.Hex.{hex8};
 ghost use Rattle.fixed_core.specs.Text.{core_text, IsFixedCoreText};
 
 use crate::{AFTER_RESET_PC, BEFORE_RESET_PC};
 use core_host::{Host, HostFailed, Port, push_all};
+use hex_text::hex_digits;
 
 /// Pushes the text of the core with this reset pc on the main port. That text is a core's: it has one tree, which is
 /// sound and refines the machine with the fixed set. It takes no memory.
@@ -29,32 +28,4 @@ pub fn push_core<H: Host>(host: &mut H, reset_pc: u32) -> Result<(), HostFailed>
     push_all(host, Port::Main, BEFORE_RESET_PC.as_bytes())?;
     push_all(host, Port::Main, &hex_digits(reset_pc))?;
     push_all(host, Port::Main, AFTER_RESET_PC.as_bytes())
-}
-
-/// The eight hexadecimal digits of a number, the highest first.
-fn hex_digits(number: u32) -> [u8; 8]
-    ensures { result ≡ hex8 number }
-{
-    [
-        digit_byte(number / 0x1000_0000 % 16),
-        digit_byte(number / 0x100_0000 % 16),
-        digit_byte(number / 0x10_0000 % 16),
-        digit_byte(number / 0x1_0000 % 16),
-        digit_byte(number / 0x1000 % 16),
-        digit_byte(number / 0x100 % 16),
-        digit_byte(number / 0x10 % 16),
-        digit_byte(number % 16),
-    ]
-}
-
-/// The byte of a digit: 0 to 9, and a to f.
-fn digit_byte(digit: u32) -> u8
-    requires { digit < 16 }
-    ensures { result ≡ digit_char digit }
-{
-    if digit < 10 {
-        b'0' + digit as u8
-    } else {
-        b'a' + (digit as u8 - 10)
-    }
 }

@@ -1,0 +1,9 @@
+//! Numbers as hexadecimal text.
+#![tactic(auto)]
+
+mod digits;
+
+pub use digits::hex_digits;
+
+#[cfg(test)]
+mod tests;
