@@ -1,7 +1,7 @@
 -- The drivers of a module in order, and the values that their nodes have.
-use Rattle.std.specs.Prelude.{◌≡◌, ℕ, ◌+◌, ◌<◌, ◌≤◌, cond, List, [], ◌∷◌, length}
+use Rattle.std.specs.Prelude.{◌≡◌, ℕ, cond, List, [], ◌∷◌}
 use Rattle.core_words.specs.Names.{same_name}
-use Rattle.verilog_mean.specs.Plain.{Expr, Plain}
+use Rattle.verilog_mean.specs.Plain.{Plain}
 use Rattle.verilog_mean.specs.Cycle.{State, width_in, width_of, source_of, value}
 use Rattle.verilog_mean.specs.Cycle.Source.{Driven}
 use Rattle.verilog_mean.specs.Erase.{plain}

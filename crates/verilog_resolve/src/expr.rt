@@ -1,10 +1,11 @@
-ghost use Rattle.std.specs.Prelude.{◌≡◌, ℕ, List, ◌+◌, ◌^◌, ◌<◌, ◌≤◌, IfOk, false, vec_len};
+ghost use Rattle.std.specs.Prelude.{◌≡◌, ℕ, List, ◌+◌, ◌-◌, ◌^◌, ◌<◌, ◌≤◌, IfOk, false, vec_len};
 ghost use Rattle.verilog_mean.specs.Cycle.{eval, width_of};
 ghost use Rattle.verilog_mean.specs.Erase.{plain};
 ghost use Rattle.verilog_flat.specs.Builds.{IsSameRoom};
-ghost use Rattle.verilog_resolve.specs.Names.{IsIn, places};
+ghost use Rattle.verilog_flat.specs.Flat.{IsFit};
+ghost use Rattle.verilog_resolve.specs.Names.{IsArray, IsIn, IsNet, base_of, node_of, place_width, places, size_of};
 ghost use Rattle.verilog_resolve.specs.View.{view};
-ghost use Rattle.verilog_resolve.specs.Flat.{flat, joined, mask_of, merged};
+ghost use Rattle.verilog_resolve.specs.Flat.{flat, joined, mask_of, merged, push};
 ghost use Rattle.verilog_resolve.specs.Means.{Matches, Means};
 ghost use Rattle.verilog_resolve.specs.declared.names.Place.{Place};
 ghost use Rattle.core_words.specs.Names.{same_name};
@@ -13,7 +14,7 @@ ghost use Rattle.verilog_resolve.specs.Fine.{IsBegun, IsFine, IsOperand, begun_w
 use crate::names::{Names, Place};
 use std::alloc::AllocError;
 use verilog_flat::{Build, Node};
-use verilog_tree::{BinSign, Expr};
+use verilog_tree::{BinSign, Expr, Pair};
 
 /// A node that has a value, and the value's width in bits.
 #[derive(Clone, Copy, Drop)]
@@ -64,8 +65,7 @@ fn push_binary(
         BinSign::Equal | BinSign::Less => 1,
         _ => left.width,
     };
-    let at = build.push(node)?;
-    Ok(Operand { at, width })
+    push_node(node, width, build)
 }
 
 /// Joins a part to those before it, which are higher.
@@ -95,6 +95,65 @@ fn push_part(all: Option<Operand>, part: Operand, build: &mut Build) -> Result<O
     }
 }
 
+/// Appends a node whose value has this width.
+fn push_node(node: Node, width: u32, build: &mut Build) -> Result<Operand, AllocError>
+    requires fits { IsFit build.old.regs build.old.cells build.old.ins (vec_len build.old.nodes) node }
+    requires narrow { width ≤ 64 }
+    ensures flat { IfOk result (λ d. push build.old.nodes.items node width ≡ record { nodes = build.new.nodes.items; at = d.at; width = d.width }) }
+    ensures within { IfOk result (λ d. IsOperand (vec_len build.new.nodes) d) }
+    ensures width { IfOk result (λ d. d.width ≡ width) }
+    ensures longer { vec_len build.old.nodes ≤ vec_len build.new.nodes }
+    ensures same { IsSameRoom build.new build.old }
+{
+    let at = build.push(node)?;
+    Ok(Operand { at, width })
+}
+
+/// Appends the node of some bits of a net.
+fn push_slice(place: Place, bits: Pair, build: &mut Build) -> Result<Operand, AllocError>
+    requires net { IsNet place }
+    requires bits { (bits.second.value ≤ bits.first.value) × (bits.first.value < 64) }
+    requires scope { IsIn (vec_len build.old.nodes) build.old.cells place }
+    ensures flat { IfOk result (λ d. push build.old.nodes.items
+        (Node.Slice (node_of place) bits.second.value (mask_of (bits.first.value + 1 - bits.second.value))) (bits.first.value + 1 - bits.second.value)
+        ≡ record { nodes = build.new.nodes.items; at = d.at; width = d.width }) }
+    ensures within { IfOk result (λ d. IsOperand (vec_len build.new.nodes) d) }
+    ensures width { IfOk result (λ d. d.width ≡ bits.first.value + 1 - bits.second.value) }
+    ensures longer { vec_len build.old.nodes ≤ vec_len build.new.nodes }
+    ensures same { IsSameRoom build.new build.old }
+{
+    let Place::Net { node, .. } = place else {
+        unreachable!();
+    };
+    let low = bits.second.value;
+    let width = bits.first.value + 1 - low;
+    let slice = Node::Slice {
+        of: node,
+        low,
+        mask: mask(width),
+    };
+    push_node(slice, width, build)
+}
+
+/// Appends the node of a cell of an array.
+fn push_cell(place: Place, index: Operand, build: &mut Build) -> Result<Operand, AllocError>
+    requires array { IsArray place }
+    requires index { IsOperand (vec_len build.old.nodes) index }
+    requires scope { IsIn (vec_len build.old.nodes) build.old.cells place }
+    ensures flat { IfOk result (λ d. push build.old.nodes.items (Node.Cell index.at (base_of place) (size_of place)) (place_width place)
+        ≡ record { nodes = build.new.nodes.items; at = d.at; width = d.width }) }
+    ensures within { IfOk result (λ d. IsOperand (vec_len build.new.nodes) d) }
+    ensures width { IfOk result (λ d. d.width ≡ place_width place) }
+    ensures longer { vec_len build.old.nodes ≤ vec_len build.new.nodes }
+    ensures same { IsSameRoom build.new build.old }
+{
+    let Place::Array { base, size, width } = place else {
+        unreachable!();
+    };
+    let index = index.at;
+    push_node(Node::Cell { index, base, size }, width, build)
+}
+
 /// Appends the nodes of an expression, and answers the one that has its value.
 #[tactic(auto, unfolding(crate::specs::View::view))]
 fn resolve(e: &Expr, names: &Names, build: &mut Build) -> Result<Operand, AllocError>
@@ -109,56 +168,28 @@ fn resolve(e: &Expr, names: &Names, build: &mut Build) -> Result<Operand, AllocE
 {
     match e {
         Expr::Literal(literal) => {
-            let at = build.push(Node::Literal {
+            let node = Node::Literal {
                 value: literal.value,
-            })?;
-            Ok(Operand {
-                at,
-                width: literal.width,
-            })
+            };
+            push_node(node, literal.width, build)
         }
         Expr::Named(name) => match names.place(name.text.text()) {
             Place::Net { node, width } => Ok(Operand { at: node, width }),
             _ => unreachable!(),
         },
-        Expr::Select { name, bits } => match names.place(name.text.text()) {
-            Place::Net { node, .. } => {
-                let low = bits.second.value;
-                let width = bits.first.value + 1 - low;
-                let at = build.push(Node::Slice {
-                    of: node,
-                    low,
-                    mask: mask(width),
-                })?;
-                Ok(Operand { at, width })
-            }
-            _ => unreachable!(),
-        },
+        Expr::Select { name, bits } => push_slice(names.place(name.text.text()), *bits, build),
         Expr::Cell { name, index, .. } => {
             let index = resolve(index.get(), names, build)?;
-            match names.place(name.text.text()) {
-                Place::Array { base, size, width } => {
-                    let at = build.push(Node::Cell {
-                        index: index.at,
-                        base,
-                        size,
-                    })?;
-                    Ok(Operand { at, width })
-                }
-                _ => unreachable!(),
-            }
+            push_cell(names.place(name.text.text()), index, build)
         }
         Expr::Paren { inner, .. } => resolve(inner.get(), names, build),
         Expr::Not { inner, .. } => {
             let of = resolve(inner.get(), names, build)?;
-            let at = build.push(Node::Not {
+            let node = Node::Not {
                 of: of.at,
                 mask: mask(of.width),
-            })?;
-            Ok(Operand {
-                at,
-                width: of.width,
-            })
+            };
+            push_node(node, of.width, build)
         }
         Expr::Binary {
             sign,
@@ -174,15 +205,12 @@ fn resolve(e: &Expr, names: &Names, build: &mut Build) -> Result<Operand, AllocE
             let test = resolve(test.get(), names, build)?;
             let first = resolve(yes.get(), names, build)?;
             let other = resolve(no.get(), names, build)?;
-            let at = build.push(Node::Choice {
+            let choice = Node::Choice {
                 test: test.at,
                 first: first.at,
                 other: other.at,
-            })?;
-            Ok(Operand {
-                at,
-                width: first.width,
-            })
+            };
+            push_node(choice, first.width, build)
         }
         Expr::Join { parts, .. } => {
             let mut all = None;

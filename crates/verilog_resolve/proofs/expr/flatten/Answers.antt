@@ -1,4 +1,4 @@
-use Rattle.std.proofs.Common.{◌≡◌, ◌+◌, ◌^◌, ◌≤◌, IfOk, vec_len, sym, subst}
+use Rattle.std.proofs.Common.{◌≡◌, IfOk, sym, subst}
 use Rattle.verilog_mean.specs.Erase.{plain}
 use Rattle.verilog_resolve.specs.Names.{places}
 use Rattle.verilog_resolve.specs.Flat.{flat}

@@ -1,4 +1,4 @@
-use Rattle.std.proofs.Common.{◌≡◌, ◌+◌, ◌-◌, ◌∷◌, length, take, drop, ap, sym, ◌∙◌, subst, arith}
+use Rattle.std.proofs.Common.{◌≡◌, ◌-◌, ◌∷◌, length, take, drop, ap, sym, ◌∙◌, subst}
 use Rattle.verilog_resolve.specs.Names.{places}
 use Rattle.verilog_resolve.specs.Wires.{AreOrdered, Binds, known, with_nets}
 use Rattle.verilog_resolve.proofs.Split.{split_first}

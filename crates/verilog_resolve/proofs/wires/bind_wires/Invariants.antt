@@ -1,4 +1,4 @@
-use Rattle.std.proofs.Common.{◌≡◌, ◌+◌, ◌≤◌, ℕ, List, vec_len, length}
+use Rattle.std.proofs.Common.{◌≡◌, ℕ, List, vec_len, length}
 use Rattle.verilog_flat.specs.Builds.{IsSameRoom}
 use Rattle.verilog_resolve.specs.Names.{places, IsIn}
 use Rattle.verilog_resolve.specs.Wires.{AreOrdered, Binds, known, with_nets}
