@@ -1,7 +1,7 @@
 -- The ends of a call, from those of its parts, and what was pulled in all.
-use Rattle.std.proofs.Common.{◌≡◌, ◌≤◌, ◌<◌, ◌⊎◌, inl, inr, ℕ, List, [], ◌∷◌, Option, Some, None, Ok, Err, refl, sym, ap, ◌∙◌, subst, arith}
+use Rattle.std.proofs.Common.{◌≡◌, ◌≤◌, ◌⊎◌, inl, inr, ℕ, List, [], ◌∷◌, Option, Some, Ok, refl, ◌∙◌, subst, arith}
 use Rattle.std.proofs.lemmas.Bool.{cases_lt}
-use Rattle.core_host.specs.Outside.{Files, Rose, Appends, IsCut, IsMissing, PulledAtMost, SameButOne}
+use Rattle.core_host.specs.Outside.{Files, Appends, IsCut, IsMissing}
 use Rattle.bus_law.specs.Memory.{Memory, IsMemory}
 use Rattle.verilog_tree.specs.declared.tree.Tree.{Tree}
 use Rattle.verilog_mean.specs.Erase.{plain_tree}
@@ -14,10 +14,10 @@ use Rattle.core_tool.specs.declared.ends.CallEnd.{CallEnd}
 use Rattle.core_tool.specs.declared.ends.CallEnd.TheVariants.{Written, BadWords, Refused, BadFile, BadImage, OutOfMemory, Unwritten, CyclesEnded, Stopped}
 use Rattle.core_tool.specs.declared.options.Options.{Options}
 use Rattle.core_tool.specs.Config.{config_of}
-use Rattle.core_tool.specs.Words.{Form, Gen, Run}
-use Rattle.core_tool.specs.Files.{Gives, IsAccepted, IsFile, IsResetPc, Pulled, PulledBoth, PulledConfig, PulledUnlessFault, config_name, image_fault, image_name}
-use Rattle.core_tool.specs.CoreRun.{IsCoreTree, IsCoreRun}
-use Rattle.core_tool.specs.Parts.{ForBytes, IsConfigEnd, IsCutRunOf, IsImageEnd, IsLoaded, IsRunOf, IsSimulated, PulledOne}
+use Rattle.core_tool.specs.Words.{Form, Run}
+use Rattle.core_tool.specs.Files.{Gives, IsAccepted, IsResetPc, Pulled, PulledUnlessFault, config_name, image_name}
+use Rattle.core_tool.specs.CoreRun.{IsCoreTree}
+use Rattle.core_tool.specs.Parts.{ForBytes, IsConfigEnd, IsImageEnd, IsLoaded, IsSimulated, PulledOne}
 use Rattle.core_tool.specs.Call.{IsEnd, IsRunText}
 use Rattle.core_tool.proofs.Calls.{Rose-earlier, PulledUnlessFault-later}
 use Rattle.core_tool.proofs.Runs.{core_run}

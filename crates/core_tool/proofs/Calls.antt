@@ -1,16 +1,15 @@
 -- The parts of a call, from what was read and pulled.
-use Rattle.std.proofs.Common.{◌≡◌, ◌≤◌, ◌<◌, ◌⊎◌, inl, inr, ◌++◌, ℕ, nat_lt, List, [], length, Option, Some, None, Result, Ok, Err, IfOk, Bool, true, false, if◌then◌else◌, refl, sym, ap, ◌∙◌, subst, append-nil, arith, length-append}
+use Rattle.std.proofs.Common.{◌≡◌, ◌≤◌, ◌<◌, inl, inr, ◌++◌, ℕ, nat_lt, List, length, Option, Some, None, Ok, Err, false, refl, sym, ap, ◌∙◌, subst, append-nil, arith, length-append}
 use Rattle.std.proofs.lemmas.Bool.{cases_lt, lt-ltb}
 use Rattle.std.proofs.lemmas.Bool.Decides.{nat_tests}
-use Rattle.core_host.specs.Outside.{Files, Rose, IsRead, IsReadWith, PulledAtMost, SameButOne, IsMissing, held}
+use Rattle.core_host.specs.Outside.{Files, Rose, IsRead, PulledAtMost, held}
 use Rattle.core_tool.specs.declared.config.ConfigRefusal.{ConfigRefusal}
 use Rattle.core_tool.specs.declared.config.ConfigError.TheVariants.{Refused as RefusedError}
 use Rattle.core_tool.specs.declared.ends.ImageFault.{ImageFault}
 use Rattle.core_tool.specs.declared.ends.ImageFault.TheVariants.{TooLong, Outside}
 use Rattle.core_tool.specs.Config.{config_of}
-use Rattle.core_tool.specs.Words.{Form, Gen, Run}
-use Rattle.core_tool.specs.Files.{IsFile, Pulled, PulledUnlessFault, image_fault}
-use Rattle.core_tool.specs.Parts.{ForBytes, PulledOne}
+use Rattle.core_tool.specs.Files.{IsFile, PulledUnlessFault, image_fault}
+use Rattle.core_tool.specs.Parts.{ForBytes}
 use Rattle.core_tool.proofs.Configs.{IsAnswer, answer_ok, answer_refused, config_of-long}
 
 -- what was read up to one byte past the limit tells as much as the file

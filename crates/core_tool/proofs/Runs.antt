@@ -1,5 +1,5 @@
 -- The memory, the tree and the run of the command `run`.
-use Rattle.std.proofs.Common.{◌≡◌, ◌≤◌, ◌<◌, ◌+◌, ◌-◌, ◌^◌, ◌⊎◌, inl, inr, ◌↔◌, ℕ, zero, suc, List, [], ◌∷◌, ◌++◌, length, drop, replicate, Option, Some, None, Result, Ok, Err, All, Bool, true, false, cond, refl, sym, ap, ◌∙◌, subst, arith}
+use Rattle.std.proofs.Common.{◌≡◌, ◌≤◌, ◌⊎◌, inl, inr, ℕ, zero, suc, List, [], ◌∷◌, ◌++◌, length, drop, replicate, Some, All, Bool, true, false, cond, sym, ap, ◌∙◌, subst, arith}
 use Rattle.std.proofs.lemmas.List.{drop-replicate, length-replicate, get_or-replicate, ext_get_or}
 use Rattle.core_host.specs.Outside.{grown}
 use Rattle.core_host.specs.TextHost.{Texts, fresh, text_on}
@@ -11,11 +11,9 @@ use Rattle.image_load.specs.declared.refusal.ImageRefusal.TheVariants as image
 use Rattle.isa_model.specs.Machine.{machine_from}
 use Rattle.verilog_tree.specs.declared.tree.Tree.{Tree}
 use Rattle.verilog_tree.specs.Module.{Reads}
-use Rattle.verilog_read.specs.declared.refusal.ReadRefusal.{ReadRefusal}
-use Rattle.verilog_read.specs.declared.refusal.ReadRefusal.TheVariants as read
-use Rattle.verilog_read.specs.Outcome.{IsTree}
 use Rattle.verilog_mean.specs.Erase.{plain_tree}
 use Rattle.verilog_mean.specs.Plain.{Plain}
+use Rattle.verilog_mean.specs.Sound.{IsSound}
 use Rattle.verilog_mean.specs.Zero.{zero_state}
 use Rattle.pipe_refine.specs.Follows.{Follows}
 use Rattle.pipe_refine.specs.CoreText.{IsCoreText}
@@ -70,19 +68,13 @@ core_tree reset_pc text t e h reads =
     subst (λ u. IsCoreTree reset_pc u) (sym (core.one_reading.1 t reads))
     (record { text = text; is_text = core; one_reading = core.one_reading; sound = core.sound; refines = core.refines })
 
-refused_only : (t : Tree) (e : ReadRefusal) → IsTree (Err e) t → (e ≡ read.NoMemory → ⊥) → ⊥
-refused_only t (read.TooLong len) h other = h
-refused_only t (read.Unsupported at form) h other = h
-refused_only t (read.Text at) h other = h
-refused_only t read.NoMemory h other = other refl
-
--- a text that has a tree is refused for want of memory alone
-pub only_memory : (reset_pc : ℕ) (text : List ℕ) (e : ReadRefusal) → text ≡ core_text reset_pc → IsFixedCoreText reset_pc (core_text reset_pc)
-    → ((t : Tree) → length text ≤ 16777216 → Reads text t → IsTree (Err e) t) → (e ≡ read.NoMemory → ⊥) → ⊥
+-- the core's own text is refused for want of memory alone
+pub own_refused : (reset_pc : ℕ) (text : List ℕ) (W : Type 0) → text ≡ core_text reset_pc → IsFixedCoreText reset_pc (core_text reset_pc)
+    → ((t : Tree) → length text ≤ 16777216 → Reads text t → IsSound t → W) → W
 unfolding IsFixedCoreText
-only_memory reset_pc text e same h only other =
+own_refused reset_pc text W same h refused =
     let core : IsCoreText fixed_set reset_pc text = subst (λ l. IsCoreText fixed_set reset_pc l) (sym same) h in
-    refused_only core.tree e (only core.tree (short_text reset_pc text same) core.one_reading.0) other
+    refused core.tree (short_text reset_pc text same) core.one_reading.0 core.sound
 
 -- ---- the run
 

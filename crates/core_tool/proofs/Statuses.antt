@@ -1,5 +1,5 @@
 -- What the end of the work says of the call: its ends once the line is written, and its clauses status by status.
-use Rattle.std.proofs.Common.{◌≡◌, ◌≤◌, ◌<◌, ◌⊎◌, inl, inr, ℕ, List, [], length, Option, Some, None, Ok, Err, refl, sym, ap, ◌∙◌, subst, arith}
+use Rattle.std.proofs.Common.{◌≡◌, ◌≤◌, inl, inr, ℕ, List, [], length, Option, Some, None, Ok, Err, refl, sym, ap, ◌∙◌, subst, arith}
 use Rattle.core_host.specs.Outside.{Files, Rose, Appends, IsCut, held}
 use Rattle.core_sim.specs.declared.ended.Ended.{Ended}
 use Rattle.core_sim.specs.declared.ended.Ended.TheVariants as run_end
@@ -9,10 +9,10 @@ use Rattle.core_tool.specs.declared.ends.ImageFault.{ImageFault}
 use Rattle.core_tool.specs.declared.ends.CallEnd.{CallEnd}
 use Rattle.core_tool.specs.declared.ends.CallEnd.TheVariants.{Written, BadWords, Refused, BadFile, BadImage, OutOfMemory, Unwritten, CyclesEnded, Stopped}
 use Rattle.core_tool.specs.Config.{config_of}
-use Rattle.core_tool.specs.Words.{Form, Gen, Run}
+use Rattle.core_tool.specs.Words.{Form}
 use Rattle.core_tool.specs.Lines.{line_of, status_of, cycles_line, stopped_line}
 use Rattle.core_tool.specs.Files.{ForFile, Holds, HoldsFile, HoldsImage, IsUnread, MissesFile, Pulled, config_name, image_fault, image_name}
-use Rattle.core_tool.specs.Call.{Ends, GotCutText, GotRun, HasLine, IsCause, IsEnd, IsRunStatus, IsRunText, IsUnlessCut, OnMain}
+use Rattle.core_tool.specs.Call.{GotCutText, GotRun, HasLine, IsCause, IsEnd, IsRunStatus, IsRunText, IsUnlessCut, OnMain}
 use Rattle.core_tool.proofs.Calls.{Rose-later, PulledUnlessFault-later, image_fault-fits}
 use Rattle.core_tool.proofs.Pieces.{grown-nil}
 

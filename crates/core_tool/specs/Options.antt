@@ -1,6 +1,6 @@
 -- The options of a run, read word by word. They stand in any order, each at most once: `--trace`, `--cycles N` with N from 1 to
 -- 100000000, and `--wait W` with W from 0 to 1000.
-use Rattle.std.specs.Prelude.{ℕ, nat_eq, nat_le, List, [], ◌∷◌, length, Option, Some, None, option_map, Bool, true, false, not, ◌&&◌, if◌then◌else◌, is_none, codes}
+use Rattle.std.specs.Prelude.{ℕ, nat_eq, nat_le, List, [], ◌∷◌, length, Option, Some, None, option_map, true, false, not, ◌&&◌, if◌then◌else◌, is_none, codes}
 use Rattle.std.specs.Cmp.Lexicographic.{pointwise}
 use Rattle.std.specs.Str.{all_ascii_digits}
 use Rattle.std.specs.Str.Parse.{digits_value}

@@ -1,5 +1,5 @@
 -- What the parts of a call answer: the configuration read, the image loaded, the run simulated.
-use Rattle.std.specs.Prelude.{◌≡◌, ◌⊎◌, ◌≤◌, ℕ, List, [], ◌∷◌, length, Option, Some, None, Ok, Err}
+use Rattle.std.specs.Prelude.{◌≡◌, ◌⊎◌, ◌≤◌, ℕ, List, [], ◌∷◌, length, Option, Some, Err}
 use Rattle.core_host.specs.Outside.{Files, Rose, Appends, IsCut, IsMissing, SameButOne}
 use Rattle.bus_law.specs.Memory.{Memory}
 use Rattle.verilog_mean.specs.Plain.{Plain}
@@ -9,7 +9,7 @@ use Rattle.core_sim.specs.Joint.{run_of}
 use Rattle.core_sim.specs.Ends.{end_of, run_text}
 use Rattle.core_sim.specs.Over.{IsOverBuses}
 use Rattle.core_tool.specs.declared.ends.CallEnd.{CallEnd}
-use Rattle.core_tool.specs.declared.ends.CallEnd.TheVariants.{Written, BadWords, Refused, BadFile, BadImage, OutOfMemory, Unwritten, CyclesEnded, Stopped}
+use Rattle.core_tool.specs.declared.ends.CallEnd.TheVariants.{Refused, BadFile, BadImage, OutOfMemory, Unwritten, CyclesEnded, Stopped}
 use Rattle.core_tool.specs.declared.options.Options.{Options}
 use Rattle.core_tool.specs.Config.{config_of}
 use Rattle.core_tool.specs.Files.{IsFile, PulledUnlessFault, image_fault}

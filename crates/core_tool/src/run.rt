@@ -2,7 +2,6 @@ ghost use Rattle.std.specs.Prelude.{◌≡◌, ◌≤◌, ◌%◌, ◌⊎◌, �
 ghost use Rattle.core_host.specs.declared.host.Port.{Port};
 ghost use Rattle.core_host.specs.declared.host.Port.TheVariants.{Main};
 ghost use Rattle.core_host.specs.TextHost.{text_on};
-ghost use Rattle.verilog_mean.specs.Bounds.{IsBounded};
 ghost use Rattle.verilog_mean.specs.Checked.{IsChecked};
 ghost use Rattle.verilog_mean.specs.CorePorts.{HasCorePorts};
 ghost use Rattle.verilog_mean.specs.Erase.{plain_tree};
@@ -20,10 +19,9 @@ use core_sim::{Ended, RunOpts, SimRefusal, run_tree};
 use fixed_core::push_core;
 use image_load::{ImageRefusal, MOST_BYTES, load_raw};
 use std::alloc::{AllocError, Global};
+use verilog_load::{TextRefusal, load_text};
 use verilog_mean::{Checked, MeanRefusal};
-use verilog_read::{ReadRefusal, read_module};
-use verilog_rules::check_tree;
-use verilog_tree::Tree;
+use verilog_read::ReadRefusal;
 
 /// The first address of the memory of a run.
 const MEMORY_BASE: u32 = 0x8000_0000;
@@ -93,27 +91,24 @@ pub fn own_tree(alloc: Global, reset_pc: u32) -> Result<Checked, AllocError>
     ensures core { IfOk result (λ c. IsCoreTree reset_pc c.tree) }
 {
     let text = own_text(alloc, reset_pc)?;
-    let tree = read_own(alloc, text.pushed(Port::Main).as_slice(), reset_pc)?;
-    match check_tree(alloc, tree) {
-        Ok(checked) => Ok(checked),
-        Err(refusal) => match refusal {
-            MeanRefusal::NoMemory => Err(AllocError),
-            _ => unreachable!(),
-        },
-    }
+    load_own(alloc, text.pushed(Port::Main).as_slice(), reset_pc)
 }
 
-/// The tree of the core's own text.
-fn read_own(alloc: Global, text: &[u8], reset_pc: u32) -> Result<Tree, AllocError>
+/// The tree of the core's own text. The text is read and sound, so that memory alone can be wanting.
+fn load_own(alloc: Global, text: &[u8], reset_pc: u32) -> Result<Checked, AllocError>
     requires is_text { text.now ≡ core_text reset_pc }
     requires core { IsFixedCoreText reset_pc (core_text reset_pc) }
-    ensures core { IfOk result (λ t. IsCoreTree reset_pc t) }
-    ensures bounded { IfOk result (λ t. IsBounded t) }
+    ensures checked { IfOk result (λ c. IsChecked c) }
+    ensures core { IfOk result (λ c. IsCoreTree reset_pc c.tree) }
 {
-    match read_module(alloc, text) {
-        Ok(tree) => Ok(tree),
-        Err(refusal) => match refusal {
+    match load_text(alloc, text) {
+        Ok(checked) => Ok(checked),
+        Err(TextRefusal::Unread(refusal)) => match refusal {
             ReadRefusal::NoMemory => Err(AllocError),
+            _ => unreachable!(),
+        },
+        Err(TextRefusal::Unsound(refusal)) => match refusal {
+            MeanRefusal::NoMemory => Err(AllocError),
             _ => unreachable!(),
         },
     }

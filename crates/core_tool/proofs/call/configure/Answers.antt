@@ -1,4 +1,4 @@
-use Rattle.std.proofs.Common.{ap, ◌∙◌, subst, Ok, Err}
+use Rattle.std.proofs.Common.{subst, Ok, Err}
 use Rattle.core_tool.specs.Config.{config_of}
 use Rattle.core_tool.specs.declared.config.ConfigError.TheVariants.{Refused}
 use Rattle.core_tool.proofs.Configs.{IsAnswer, answer_ok, config_of-reset_pc}

@@ -1,9 +1,8 @@
-use Rattle.std.proofs.Common.{◌≡◌, inl, inr, refl, sym, ◌∙◌, subst}
+use Rattle.std.proofs.Common.{inl, inr, refl, subst}
 use Rattle.core_host.specs.declared.host.Port.TheVariants.{Main, Notes}
 use Rattle.core_host.specs.Outside.{Appends, IsCut}
 use Rattle.core_tool.specs.Words.{form_of, words_of}
 use Rattle.core_tool.specs.Lines.{line_of}
-use Rattle.core_tool.specs.Call.{IsEnd}
 use Rattle.core_tool.proofs.Calls.{Rose-earlier}
 use Rattle.core_tool.proofs.Statuses.{cut_clause, cycles_clause, end_later, has_line, image_clause, missing_clause, pulled_later, run_clause, stopped_clause}
 use Rattle.core_tool.proofs.call.core_main.Goals as goal

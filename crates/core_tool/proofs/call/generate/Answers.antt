@@ -1,4 +1,4 @@
-use Rattle.std.proofs.Common.{refl, ap, ◌∙◌, Some}
+use Rattle.std.proofs.Common.{refl, Some}
 use Rattle.core_host.specs.declared.host.Port.TheVariants.{Main}
 use Rattle.core_tool.specs.Words.{Gen}
 use Rattle.core_tool.proofs.CallEnds.{config_ends, pulled_config}

@@ -1,7 +1,7 @@
-use Rattle.std.proofs.Common.{◌≡◌, ◌≤◌, ℕ, List, Option, Some, refl, sym, ap, ◌∙◌, subst, arith}
+use Rattle.std.proofs.Common.{Some, refl, ◌∙◌, subst, arith}
 use Rattle.core_host.specs.declared.host.Port.TheVariants.{Main}
 use Rattle.bus_law.specs.Memory.{IsMemory}
-use Rattle.core_tool.specs.Words.{Form, Run}
+use Rattle.core_tool.specs.Words.{Run}
 use Rattle.core_tool.specs.Files.{IsAccepted}
 use Rattle.core_tool.specs.Parts.{IsLoaded, PulledOne}
 use Rattle.core_tool.proofs.CallEnds.{IsSetUp, config_ends, gives, image_end_earlier, image_ends, pulled_both, run_ends}

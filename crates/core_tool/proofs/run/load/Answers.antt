@@ -1,6 +1,6 @@
-use Rattle.std.proofs.Common.{◌≡◌, Some, Err, sym, ap, ◌∙◌, subst}
+use Rattle.std.proofs.Common.{◌≡◌, Some, Err, sym, ap, ◌∙◌}
 use Rattle.core_tool.specs.Files.{image_fault}
-use Rattle.core_tool.proofs.Calls.{image_refused, short_image}
+use Rattle.core_tool.proofs.Calls.{image_refused}
 use Rattle.core_tool.proofs.run.load.Goals as goal
 
 pub returns-in-Err-Refused-clause-refused : goal.returns-in-Err-Refused-clause-refused
