@@ -28,7 +28,7 @@ unfolding net_value
 still_value env old new n net adds is = ap (value env) (adds.trees net.id.0 is.live)
 
 -- an operator's tree has its width
-width-op : (f : ℕ → Tree) (w : ℕ) (o : Op) → width_of (of_op f w o) ≡ w
+pub width-op : (f : ℕ → Tree) (w : ℕ) (o : Op) → width_of (of_op f w o) ≡ w
 width-op f w (Lit value) = refl
 width-op f w (Input port) = refl
 width-op f w (Wire wire) = refl

@@ -5,6 +5,7 @@ use Rattle.std.proofs.lemmas.Nat.Bits.{bit_at-pow_same, bit_at-pow_other}
 use Rattle.std.proofs.Math.Nat.{div-eq_of_lt}
 use Rattle.std.proofs.lemmas.Nat.{pow_pos, mod-pow-add}
 use Rattle.core_words.specs.Values.{one_if, bits_of, choose, join_of}
+use Rattle.hw_expr.specs.Signed.{sign_of, lts_of}
 use Rattle.hw_expr.specs.Lists.{hot_of}
 
 -- a choice by a test
@@ -71,3 +72,8 @@ bit-picks f v b h l is =
     let split : v % 2 ^ (1 + k) ≡ d * 2 ^ k + r = mod-pow-add v 1 k in
     let sum : d * h + r ≡ v % 2 ^ b = ap (λ (m : ℕ). d * m + r) is ∙ sym split ∙ ap (λ (m : ℕ). v % 2 ^ m) whole in
     ap (λ (w : ℕ). choose (v / 2 ^ k % 2 ^ w) (f (h + r)) (f r)) one ∙ digit-picks f d h r digit ∙ ap f sum
+
+-- a signed comparison by its signs
+pub lts_from : (w x y e l s : ℕ) → s ≡ sign_of w x → e ≡ one_if (eqb (sign_of w x) (sign_of w y)) → l ≡ one_if (ltb x y) → choose e l s ≡ lts_of w x y
+lts_from w x y e l s s_is e_is l_is =
+    (λ i. choose (e_is i) (l_is i) (s_is i)) ∙ choose_test (eqb (sign_of w x) (sign_of w y)) (one_if (ltb x y)) (sign_of w x)

@@ -1,7 +1,7 @@
 ghost use Rattle.std.specs.Prelude.{◌≡◌, ℕ, ◌+◌, ◌-◌, ◌*◌, ◌%◌, ◌<◌, ◌≤◌, ◌^◌, eqb, length, max};
 ghost use Rattle.core_words.specs.Values.{bits_of, one_if};
 ghost use Rattle.hw_pool.specs.Meaning.{Env};
-ghost use Rattle.hw_pool.specs.Frame.{Adds};
+ghost use Rattle.hw_pool.specs.Frame.{Adds, AddsInner};
 ghost use Rattle.hw_expr.specs.Nets.{IsNet, net_value};
 ghost use Rattle.hw_expr.specs.Lists.{AreNets, greatest, hot_of, net_at};
 
@@ -20,6 +20,7 @@ pub fn mux_tree(pool: &mut Pool, index: Net, list: &[Net]) -> Net
     ensures width { result.width ≡ (net_at list.now 0).width }
     ensures level { result.level ≡ max index.level (greatest list.now) }
     ensures adds { Adds pool.old pool.new (2 * length list.now) }
+    ensures inner { AddsInner pool.old.nodes pool.new.nodes }
     ensures nets { (n : Net) → IsNet pool.old n → IsNet pool.new n }
     ensures values { (env : Env) (n : Net) → IsNet pool.old n → net_value env pool.new n ≡ net_value env pool.old n }
 {
@@ -28,6 +29,7 @@ pub fn mux_tree(pool: &mut Pool, index: Net, list: &[Net]) -> Net
 
 /// The item of a list that the low `bits` bits of `index` name, where there is one for each number of so
 /// many bits.
+#[tactic(auto, using(hw_pool::proofs::Frames::inner_then, hw_pool::proofs::Frames::inner_nothing))]
 fn select(pool: &mut Pool, index: Net, bits: u32, list: &[Net]) -> Net
     requires spare { 2 * length list.now ≤ pool.old.spare + 2 }
     requires index { IsNet pool.old index }
@@ -40,6 +42,7 @@ fn select(pool: &mut Pool, index: Net, bits: u32, list: &[Net]) -> Net
     ensures leaf { bits ≡ 0 → result.level ≡ greatest list.now }
     ensures level { 1 ≤ bits → result.level ≡ max index.level (greatest list.now) }
     ensures adds { Adds pool.old pool.new (2 * length list.now - 2) }
+    ensures inner { AddsInner pool.old.nodes pool.new.nodes }
     ensures nets { (n : Net) → IsNet pool.old n → IsNet pool.new n }
     ensures values { (env : Env) (n : Net) → IsNet pool.old n → net_value env pool.new n ≡ net_value env pool.old n }
 {
@@ -54,6 +57,7 @@ fn select(pool: &mut Pool, index: Net, bits: u32, list: &[Net]) -> Net
 }
 
 /// A net of 2 ^ the width of `a` bits, of which bit k is 1 exactly where `a` is k.
+#[tactic(auto, using(hw_pool::proofs::Frames::inner_then))]
 pub fn one_hot(pool: &mut Pool, a: Net) -> Net
     requires spare { 3 * 2 ^ a.width ≤ pool.old.spare }
     requires a { IsNet pool.old a }
@@ -64,6 +68,7 @@ pub fn one_hot(pool: &mut Pool, a: Net) -> Net
     ensures width { result.width ≡ 2 ^ a.width }
     ensures level { result.level ≡ a.level }
     ensures adds { Adds pool.old pool.new (3 * 2 ^ a.width) }
+    ensures inner { AddsInner pool.old.nodes pool.new.nodes }
     ensures nets { (n : Net) → IsNet pool.old n → IsNet pool.new n }
     ensures values { (env : Env) (n : Net) → IsNet pool.old n → net_value env pool.new n ≡ net_value env pool.old n }
 {
@@ -71,6 +76,7 @@ pub fn one_hot(pool: &mut Pool, a: Net) -> Net
 }
 
 /// A net of `n` bits, of which bit k is 1 exactly where `a` is k.
+#[tactic(auto, using(hw_pool::proofs::Frames::inner_then))]
 fn hot(pool: &mut Pool, a: Net, n: u32) -> Net
     requires spare { 3 * n ≤ pool.old.spare }
     requires a { IsNet pool.old a }
@@ -82,6 +88,7 @@ fn hot(pool: &mut Pool, a: Net, n: u32) -> Net
     ensures width { result.width ≡ n }
     ensures level { result.level ≡ a.level }
     ensures adds { Adds pool.old pool.new (3 * n) }
+    ensures inner { AddsInner pool.old.nodes pool.new.nodes }
     ensures nets { (n : Net) → IsNet pool.old n → IsNet pool.new n }
     ensures values { (env : Env) (n : Net) → IsNet pool.old n → net_value env pool.new n ≡ net_value env pool.old n }
 {

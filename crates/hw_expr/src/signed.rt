@@ -1,6 +1,6 @@
 ghost use Rattle.std.specs.Prelude.{◌≡◌, ◌+◌, ◌-◌, ◌<◌, ◌≤◌, ◌^◌, cond, eqb, max};
 ghost use Rattle.hw_pool.specs.Meaning.{Env};
-ghost use Rattle.hw_pool.specs.Frame.{Adds};
+ghost use Rattle.hw_pool.specs.Frame.{Adds, AddsInner};
 ghost use Rattle.hw_expr.specs.Nets.{IsNet, net_value};
 ghost use Rattle.hw_expr.specs.Signed.{lts_of, sra_of};
 
@@ -20,6 +20,7 @@ pub fn lts(pool: &mut Pool, a: Net, b: Net) -> Net
     ensures width { result.width ≡ 1 }
     ensures level { result.level ≡ max a.level b.level }
     ensures adds { Adds pool.old pool.new 8 }
+    ensures inner { AddsInner pool.old.nodes pool.new.nodes }
     ensures nets { (n : Net) → IsNet pool.old n → IsNet pool.new n }
     ensures values { (env : Env) (n : Net) → IsNet pool.old n → net_value env pool.new n ≡ net_value env pool.old n }
 {
@@ -32,7 +33,7 @@ pub fn lts(pool: &mut Pool, a: Net, b: Net) -> Net
 }
 
 /// `n` copies of one bit.
-#[tactic(auto, using(crate::proofs::Nets::still_value, hw_pool::proofs::Frames::adds_then, crate::proofs::Values::choose_test))]
+#[tactic(auto, using(crate::proofs::Nets::still_value, hw_pool::proofs::Frames::adds_then, hw_pool::proofs::Frames::inner_then, crate::proofs::Values::choose_test))]
 fn copies(pool: &mut Pool, bit: Net, n: u32) -> Net
     requires spare { 3 ≤ pool.old.spare }
     requires bit { IsNet pool.old bit }
@@ -44,6 +45,7 @@ fn copies(pool: &mut Pool, bit: Net, n: u32) -> Net
     ensures width { result.width ≡ n }
     ensures level { result.level ≡ bit.level }
     ensures adds { Adds pool.old pool.new 3 }
+    ensures inner { AddsInner pool.old.nodes pool.new.nodes }
     ensures nets { (n : Net) → IsNet pool.old n → IsNet pool.new n }
     ensures values { (env : Env) (n : Net) → IsNet pool.old n → net_value env pool.new n ≡ net_value env pool.old n }
 {
@@ -63,6 +65,7 @@ pub fn sra_by(pool: &mut Pool, a: Net, n: u32) -> Net
     ensures width { result.width ≡ a.width }
     ensures level { result.level ≡ a.level }
     ensures adds { Adds pool.old pool.new 80 }
+    ensures inner { AddsInner pool.old.nodes pool.new.nodes }
     ensures nets { (n : Net) → IsNet pool.old n → IsNet pool.new n }
     ensures values { (env : Env) (n : Net) → IsNet pool.old n → net_value env pool.new n ≡ net_value env pool.old n }
 {

@@ -1,26 +1,31 @@
 ghost use Rattle.std.specs.Prelude.{◌≡◌, ℕ, ◌+◌, ◌-◌, ◌<◌, ◌≤◌, ◌^◌, bit_and, bit_or, bit_xor, eqb, length, ltb, max};
 ghost use Rattle.core_words.specs.Values.{add_of, bits_of, choose, join_of, not_of, one_if, sub_of};
-ghost use Rattle.hw_pool.specs.Nodes.{AreChildren, IsWidth};
+ghost use Rattle.hw_pool.specs.Nodes.{AreChildren, IsPool, IsWidth, node_at};
 ghost use Rattle.hw_pool.specs.Trees.{of_op, tree_of};
 ghost use Rattle.hw_pool.specs.Meaning.{Env, Fits, value};
-ghost use Rattle.hw_pool.specs.Frame.{Adds};
+ghost use Rattle.hw_pool.specs.Frame.{Adds, AddsInner, IsInner};
 ghost use Rattle.hw_expr.specs.Nets.{IsNet, net_value};
 
 use crate::Net;
 use hw_pool::{Node, Op, Pool};
 
 /// Adds a node of an operator whose operands are live and have the widths that it needs.
-#[tactic(auto, using(crate::proofs::Nets::still_value), unfolding(crate::specs::Nets::net_value))]
+#[tactic(auto, using(crate::proofs::Nets::still_value, hw_pool::proofs::Frames::inner_one), unfolding(crate::specs::Nets::net_value))]
 pub fn put(pool: &mut Pool, op: Op, width: u32, level: u32) -> Net
     requires spare { 1 ≤ pool.old.spare }
     requires width { IsWidth width }
     requires children { AreChildren pool.old.nodes (length pool.old.nodes) level op }
     requires fits { Fits (of_op (tree_of pool.old.nodes) width op) }
     ensures value { (env : Env) → net_value env pool.new result ≡ value env (of_op (tree_of pool.old.nodes) width op) }
+    ensures tree { tree_of pool.new.nodes result.id.0 ≡ of_op (tree_of pool.old.nodes) width op }
+    ensures fresh { result.id.0 ≡ length pool.old.nodes }
+    ensures node { node_at pool.new.nodes result.id.0 ≡ record { op = op; width = width; level = level } }
+    ensures pool { IsPool pool.new.nodes }
     ensures net { IsNet pool.new result }
     ensures width { result.width ≡ width }
     ensures level { result.level ≡ level }
     ensures adds { Adds pool.old pool.new 1 }
+    ensures inner { IsInner op → AddsInner pool.old.nodes pool.new.nodes }
     ensures nets { (n : Net) → IsNet pool.old n → IsNet pool.new n }
     ensures values { (env : Env) (n : Net) → IsNet pool.old n → net_value env pool.new n ≡ net_value env pool.old n }
 {
@@ -39,6 +44,7 @@ pub fn lit(pool: &mut Pool, width: u32, value: u64) -> Net
     ensures width { result.width ≡ width }
     ensures level { result.level ≡ 0 }
     ensures adds { Adds pool.old pool.new 1 }
+    ensures inner { AddsInner pool.old.nodes pool.new.nodes }
     ensures nets { (n : Net) → IsNet pool.old n → IsNet pool.new n }
     ensures values { (env : Env) (n : Net) → IsNet pool.old n → net_value env pool.new n ≡ net_value env pool.old n }
 {
@@ -55,6 +61,7 @@ pub fn not(pool: &mut Pool, a: Net) -> Net
     ensures width { result.width ≡ a.width }
     ensures level { result.level ≡ a.level }
     ensures adds { Adds pool.old pool.new 1 }
+    ensures inner { AddsInner pool.old.nodes pool.new.nodes }
     ensures nets { (n : Net) → IsNet pool.old n → IsNet pool.new n }
     ensures values { (env : Env) (n : Net) → IsNet pool.old n → net_value env pool.new n ≡ net_value env pool.old n }
 {
@@ -73,6 +80,7 @@ pub fn and(pool: &mut Pool, a: Net, b: Net) -> Net
     ensures width { result.width ≡ a.width }
     ensures level { result.level ≡ max a.level b.level }
     ensures adds { Adds pool.old pool.new 1 }
+    ensures inner { AddsInner pool.old.nodes pool.new.nodes }
     ensures nets { (n : Net) → IsNet pool.old n → IsNet pool.new n }
     ensures values { (env : Env) (n : Net) → IsNet pool.old n → net_value env pool.new n ≡ net_value env pool.old n }
 {
@@ -91,6 +99,7 @@ pub fn or(pool: &mut Pool, a: Net, b: Net) -> Net
     ensures width { result.width ≡ a.width }
     ensures level { result.level ≡ max a.level b.level }
     ensures adds { Adds pool.old pool.new 1 }
+    ensures inner { AddsInner pool.old.nodes pool.new.nodes }
     ensures nets { (n : Net) → IsNet pool.old n → IsNet pool.new n }
     ensures values { (env : Env) (n : Net) → IsNet pool.old n → net_value env pool.new n ≡ net_value env pool.old n }
 {
@@ -109,6 +118,7 @@ pub fn xor(pool: &mut Pool, a: Net, b: Net) -> Net
     ensures width { result.width ≡ a.width }
     ensures level { result.level ≡ max a.level b.level }
     ensures adds { Adds pool.old pool.new 1 }
+    ensures inner { AddsInner pool.old.nodes pool.new.nodes }
     ensures nets { (n : Net) → IsNet pool.old n → IsNet pool.new n }
     ensures values { (env : Env) (n : Net) → IsNet pool.old n → net_value env pool.new n ≡ net_value env pool.old n }
 {
@@ -127,6 +137,7 @@ pub fn add(pool: &mut Pool, a: Net, b: Net) -> Net
     ensures width { result.width ≡ a.width }
     ensures level { result.level ≡ max a.level b.level }
     ensures adds { Adds pool.old pool.new 1 }
+    ensures inner { AddsInner pool.old.nodes pool.new.nodes }
     ensures nets { (n : Net) → IsNet pool.old n → IsNet pool.new n }
     ensures values { (env : Env) (n : Net) → IsNet pool.old n → net_value env pool.new n ≡ net_value env pool.old n }
 {
@@ -145,6 +156,7 @@ pub fn sub(pool: &mut Pool, a: Net, b: Net) -> Net
     ensures width { result.width ≡ a.width }
     ensures level { result.level ≡ max a.level b.level }
     ensures adds { Adds pool.old pool.new 1 }
+    ensures inner { AddsInner pool.old.nodes pool.new.nodes }
     ensures nets { (n : Net) → IsNet pool.old n → IsNet pool.new n }
     ensures values { (env : Env) (n : Net) → IsNet pool.old n → net_value env pool.new n ≡ net_value env pool.old n }
 {
@@ -163,6 +175,7 @@ pub fn eq(pool: &mut Pool, a: Net, b: Net) -> Net
     ensures width { result.width ≡ 1 }
     ensures level { result.level ≡ max a.level b.level }
     ensures adds { Adds pool.old pool.new 1 }
+    ensures inner { AddsInner pool.old.nodes pool.new.nodes }
     ensures nets { (n : Net) → IsNet pool.old n → IsNet pool.new n }
     ensures values { (env : Env) (n : Net) → IsNet pool.old n → net_value env pool.new n ≡ net_value env pool.old n }
 {
@@ -181,6 +194,7 @@ pub fn ltu(pool: &mut Pool, a: Net, b: Net) -> Net
     ensures width { result.width ≡ 1 }
     ensures level { result.level ≡ max a.level b.level }
     ensures adds { Adds pool.old pool.new 1 }
+    ensures inner { AddsInner pool.old.nodes pool.new.nodes }
     ensures nets { (n : Net) → IsNet pool.old n → IsNet pool.new n }
     ensures values { (env : Env) (n : Net) → IsNet pool.old n → net_value env pool.new n ≡ net_value env pool.old n }
 {
@@ -201,6 +215,7 @@ pub fn mux(pool: &mut Pool, c: Net, a: Net, b: Net) -> Net
     ensures width { result.width ≡ a.width }
     ensures level { result.level ≡ max (max c.level a.level) b.level }
     ensures adds { Adds pool.old pool.new 1 }
+    ensures inner { AddsInner pool.old.nodes pool.new.nodes }
     ensures nets { (n : Net) → IsNet pool.old n → IsNet pool.new n }
     ensures values { (env : Env) (n : Net) → IsNet pool.old n → net_value env pool.new n ≡ net_value env pool.old n }
 {
@@ -220,6 +235,7 @@ pub fn cat(pool: &mut Pool, a: Net, b: Net) -> Net
     ensures width { result.width ≡ a.width + b.width }
     ensures level { result.level ≡ max a.level b.level }
     ensures adds { Adds pool.old pool.new 1 }
+    ensures inner { AddsInner pool.old.nodes pool.new.nodes }
     ensures nets { (n : Net) → IsNet pool.old n → IsNet pool.new n }
     ensures values { (env : Env) (n : Net) → IsNet pool.old n → net_value env pool.new n ≡ net_value env pool.old n }
 {
@@ -243,6 +259,7 @@ pub fn slice(pool: &mut Pool, a: Net, hi: u32, lo: u32) -> Net
     ensures width { result.width ≡ hi + 1 - lo }
     ensures level { result.level ≡ a.level }
     ensures adds { Adds pool.old pool.new 1 }
+    ensures inner { AddsInner pool.old.nodes pool.new.nodes }
     ensures nets { (n : Net) → IsNet pool.old n → IsNet pool.new n }
     ensures values { (env : Env) (n : Net) → IsNet pool.old n → net_value env pool.new n ≡ net_value env pool.old n }
 {

@@ -1,8 +1,10 @@
 -- Additions to a pool one behind the other.
-use Rattle.std.proofs.Common.{◌≡◌, ◌∙◌, ℕ, ◌+◌, ◌≤◌, arith, ap, length}
-use Rattle.hw_pool.specs.Nodes.{PoolValue, node_at}
+use Rattle.std.proofs.Common.{◌≡◌, ◌∙◌, ℕ, ◌+◌, ◌<◌, ◌≤◌, List, arith, ap, sym, subst, refl, length, inl, inr}
+use Rattle.std.proofs.lemmas.Bool.{cases_lt}
+use Rattle.hw_pool.specs.declared.node.Node.{Node}
+use Rattle.hw_pool.specs.Nodes.{PoolValue, node_at, IsPool}
 use Rattle.hw_pool.specs.Trees.{tree_of}
-use Rattle.hw_pool.specs.Frame.{Adds}
+use Rattle.hw_pool.specs.Frame.{Adds, IsInner, AddsInner}
 
 -- the same nodes, with no less room
 pub adds_nothing : (old new : PoolValue) → new.nodes ≡ old.nodes → old.spare ≤ new.spare → Adds old new 0
@@ -21,4 +23,36 @@ adds_then a b c m n total first second sum = record {
   spare = omega (arith, first.spare, second.spare);
   nodes = λ k h. second.nodes k (omega (arith, first.longer)) ∙ first.nodes k h;
   trees = λ k h. second.trees k (omega (arith, first.longer)) ∙ first.trees k h;
+}
+
+-- nothing is added
+pub inner_nothing : (nodes : List Node) → AddsInner nodes nodes
+inner_nothing nodes = record {
+  longer = omega arith;
+  nodes = λ k h. refl;
+  inner = λ k l h. absurd (omega arith);
+  pool = λ h. h;
+}
+
+-- one node is added
+pub inner_one : (old new : PoolValue) (n : ℕ) (node : Node) (id : ℕ) → Adds old new n → n ≤ 1 → id < length new.nodes → length old.nodes ≤ id
+    → node_at new.nodes id ≡ node → IsPool new.nodes → IsInner node.op → AddsInner old.nodes new.nodes
+inner_one old new n node id adds one live fresh is pool inner = record {
+  longer = adds.longer;
+  nodes = adds.nodes;
+  inner = λ k l h.
+      let at : id ≡ k = omega (arith, adds.most) in
+      subst (λ (j : ℕ). IsInner (node_at new.nodes j).op) at (subst (λ (m : Node). IsInner m.op) (sym is) inner);
+  pool = λ h. pool;
+}
+
+pub inner_then : (a b c : List Node) → AddsInner a b → AddsInner b c → AddsInner a c
+inner_then a b c first second = record {
+  longer = omega (arith, first.longer, second.longer);
+  nodes = λ k h. second.nodes k (omega (arith, first.longer)) ∙ first.nodes k h;
+  inner = λ k l h. elim (cases_lt k (length b)) [
+    | inl below ↦ subst (λ (m : Node). IsInner m.op) (sym (second.nodes k below)) (first.inner k l below)
+    | inr above ↦ second.inner k above h
+  ];
+  pool = λ h. second.pool (first.pool h);
 }

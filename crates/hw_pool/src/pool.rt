@@ -98,6 +98,8 @@ impl Pool {
         requires width { IsWidth node.width }
         requires children { AreChildren self.old.nodes (length self.old.nodes) node.level node.op }
         ensures live { result.0 < length self.new.nodes }
+        ensures fresh { result.0 ≡ length self.old.nodes }
+        ensures pool { IsPool self.new.nodes }
         ensures node { node_at self.new.nodes result.0 ≡ node }
         ensures tree { tree_of self.new.nodes result.0 ≡ of_node (tree_of self.old.nodes) node }
         ensures adds { Adds self.old self.new 1 }

@@ -39,3 +39,13 @@ returns-clause-adds c =
     let is : c.push.new.self.items ≡ nodes ++ n ∷ [] = pushed _ nodes _ n (c.push.ensures.succeeds (omega arith)) c.push.ensures.items in
     let same : nodes ≡ c.args.self.now.nodes = ap (λ (v : PoolValue). v.nodes) c.self.view_is in
     adds-one _ _ n (subst IsPool same c.self.invariant) (subst (λ (ns : List Node). c.push.new.self.items ≡ ns ++ n ∷ []) same is) (omega arith)
+
+pub returns-clause-pool : goal.returns-clause-pool
+returns-clause-pool c =
+    let nodes = c.self.inside.nodes.items in
+    let n = c.args.node in
+    let room : min (vec_capacity c.self.inside.nodes) 65535 - length nodes ≡ c.args.self.now.spare = ap (λ (v : PoolValue). v.spare) c.self.view_is in
+    let is : c.push.new.self.items ≡ nodes ++ n ∷ [] = pushed _ nodes _ n (c.push.ensures.succeeds (omega arith)) c.push.ensures.items in
+    let same : nodes ≡ c.args.self.now.nodes = ap (λ (v : PoolValue). v.nodes) c.self.view_is in
+    subst IsPool (sym is) (pool-more nodes n c.self.invariant (omega arith) c.requires.width
+    (subst (λ (ns : List Node). AreChildren ns (length ns) n.level n.op) (sym same) c.requires.children))

@@ -1,0 +1,5 @@
+pub mod Tables
+pub mod Lists
+pub mod Frames
+pub mod Fits
+pub mod Pools

@@ -1,0 +1,20 @@
+//! A module under construction: forward wires, registers, arrays and the outputs of a core.
+//!
+//! Wires, registers and arrays are numbered from 0, each kind by itself. Ports have the numbers of their places
+//! in the list of all ports (`specs/Ports`). Each thing is made with its widths, and is driven once by a net
+//! that fits the module (`specs/Fits`). Memory is taken by `with_room` alone.
+#![tactic(auto)]
+
+mod check;
+mod drive;
+mod module;
+mod ports;
+mod read;
+mod rows;
+
+pub use module::Module;
+pub use ports::{PORTS, is_output, port_width};
+pub use rows::{ArrayRow, ArrayWrite, ModuleFault, Owner, RegRow, Thing, WireRow};
+
+#[cfg(test)]
+mod tests;
