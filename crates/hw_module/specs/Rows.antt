@@ -2,7 +2,8 @@
 use Rattle.std.specs.Prelude.{◌≡◌, ℕ, ◌^◌, ◌<◌, ◌≤◌, List, length, get_or, Option, None, Some}
 use Rattle.hw_pool.specs.Nodes.{IsWidth}
 use Rattle.hw_expr.specs.declared.net.Net.{Net}
-use Rattle.hw_module.specs.declared.rows.Owner.TheVariants.{Pipe}
+use Rattle.hw_module.specs.declared.rows.Owner.{Owner}
+use Rattle.hw_module.specs.declared.rows.Owner.TheVariants.{Pipe, Entry}
 use Rattle.hw_module.specs.declared.rows.WireRow.{WireRow}
 use Rattle.hw_module.specs.declared.rows.RegRow.{RegRow}
 use Rattle.hw_module.specs.declared.rows.ArrayRow.{ArrayRow}
@@ -34,6 +35,11 @@ out_at outs k = get_or outs k None
 abbrev pub IsReset : (width : ℕ) → Option ℕ → Type 0
 IsReset width reset = (v : ℕ) → reset ≡ Some v → v < 2 ^ width
 
+-- the number of an entry has 32 bits
+abbrev pub IsOwner : Owner → Type 0
+IsOwner Pipe = Unit {0}
+IsOwner (Entry entry) = entry < 2 ^ 32
+
 -- the widths of a module are in their ranges, and it has a place for each port
 pub record IsModule (m : ModuleValue) : Type 0 where
   pub wires : (k : ℕ) → k < length m.wires → IsWidth (wire_at m.wires k).width
@@ -43,3 +49,6 @@ pub record IsModule (m : ModuleValue) : Type 0 where
   pub bits_least : (k : ℕ) → k < length m.arrays → 1 ≤ (array_at m.arrays k).bits
   pub bits_most : (k : ℕ) → k < length m.arrays → (array_at m.arrays k).bits ≤ 16
   pub ports : length m.outs ≡ 30
+  pub wire_owners : (k : ℕ) → k < length m.wires → IsOwner (wire_at m.wires k).owner
+  pub reg_owners : (k : ℕ) → k < length m.regs → IsOwner (reg_at m.regs k).owner
+  pub array_owners : (k : ℕ) → k < length m.arrays → IsOwner (array_at m.arrays k).owner

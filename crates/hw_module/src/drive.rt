@@ -1,6 +1,7 @@
 ghost use Rattle.std.specs.Prelude.{◌≡◌, ℕ, ◌+◌, ◌<◌, ◌≤◌, false, length, List, None, Some};
 ghost use Rattle.core_ports.specs.Ports.{is_input, width_of};
 ghost use Rattle.hw_pool.specs.declared.node.Node.{Node};
+ghost use Rattle.hw_module.specs.Checked.{DriversFit};
 ghost use Rattle.hw_module.specs.Ports.{port_at};
 ghost use Rattle.hw_module.specs.Rows.{array_at, out_at, reg_at, wire_at};
 ghost use Rattle.hw_module.specs.Fits.{FitsIn, PoolFits};
@@ -29,6 +30,7 @@ impl Module {
         ensures room { self.new.room + 1 ≡ self.old.room }
         ensures grows { Grows self.old self.new 1 }
         ensures pool { (nodes : List Node) → PoolFits self.old nodes → PoolFits self.new nodes }
+        ensures drivers { DriversFit self.old pool.now → DriversFit self.new pool.now }
     {
         let _ = pool;
         self.room -= 1;
@@ -52,6 +54,7 @@ impl Module {
         ensures room { self.new.room + 1 ≡ self.old.room }
         ensures grows { Grows self.old self.new 1 }
         ensures pool { (nodes : List Node) → PoolFits self.old nodes → PoolFits self.new nodes }
+        ensures drivers { DriversFit self.old pool.now → DriversFit self.new pool.now }
     {
         let _ = pool;
         self.room -= 1;
@@ -80,6 +83,7 @@ impl Module {
         ensures room { self.new.room + 1 ≡ self.old.room }
         ensures grows { Grows self.old self.new 1 }
         ensures pool { (nodes : List Node) → PoolFits self.old nodes → PoolFits self.new nodes }
+        ensures drivers { DriversFit self.old pool.now → DriversFit self.new pool.now }
     {
         let _ = pool;
         self.room -= 1;
@@ -108,6 +112,7 @@ impl Module {
         ensures room { self.new.room + 1 ≡ self.old.room }
         ensures grows { Grows self.old self.new 1 }
         ensures pool { (nodes : List Node) → PoolFits self.old nodes → PoolFits self.new nodes }
+        ensures drivers { DriversFit self.old pool.now → DriversFit self.new pool.now }
     {
         let _ = pool;
         self.room -= 1;

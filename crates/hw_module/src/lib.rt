@@ -7,11 +7,13 @@
 
 mod check;
 mod drive;
+mod law;
 mod module;
 mod ports;
 mod read;
 mod rows;
 
+pub use law::drivers_keep;
 pub use module::Module;
 pub use ports::{PORTS, is_output, port_width};
 pub use rows::{ArrayRow, ArrayWrite, ModuleFault, Owner, RegRow, Thing, WireRow};

@@ -1,6 +1,7 @@
 ghost use Rattle.std.specs.Prelude.{◌≡◌, ℕ, ◌+◌, ◌<◌, ◌≤◌, ◌^◌, [], length, IfOk, List, None, replicate};
 ghost use Rattle.hw_pool.specs.declared.node.Node.{Node};
-ghost use Rattle.hw_pool.specs.Nodes.{IsWidth};
+ghost use Rattle.hw_pool.specs.Nodes.{IsWidth, PoolValue};
+ghost use Rattle.hw_module.specs.Checked.{DriversFit};
 ghost use Rattle.hw_module.specs.Rows.{IsModule, IsReset, array_at, reg_at, wire_at};
 ghost use Rattle.hw_module.specs.Fits.{PoolFits};
 ghost use Rattle.hw_module.specs.Frame.{Grows};
@@ -39,8 +40,10 @@ impl Module {
     ///
     /// # Errors
     /// `AllocError` where memory was refused.
+    #[tactic(auto, using(crate::proofs::Drivers::no_drivers))]
     pub fn with_room(alloc: Global, n: u32) -> Result<Module, AllocError>
-        ensures { IfOk result (λ m. m ≡ record { wires = []; regs = []; arrays = []; outs = replicate 30 None; room = n }) }
+        ensures bare { IfOk result (λ m. m ≡ record { wires = []; regs = []; arrays = []; outs = replicate 30 None; room = n }) }
+        ensures drivers { IfOk result (λ m. (pool : PoolValue) → DriversFit m pool) }
     {
         let wires = Vec::with_capacity(alloc, n as usize)?;
         let regs = Vec::with_capacity(alloc, n as usize)?;
@@ -110,6 +113,7 @@ impl Module {
         ensures room { self.new.room + 1 ≡ self.old.room }
         ensures grows { Grows self.old self.new 1 }
         ensures pool { (nodes : List Node) → PoolFits self.old nodes → PoolFits self.new nodes }
+        ensures drivers { (pool : PoolValue) → DriversFit self.old pool → DriversFit self.new pool }
     {
         let number = self.wires.len() as u32;
         self.room -= 1;
@@ -139,6 +143,7 @@ impl Module {
         ensures room { self.new.room + 1 ≡ self.old.room }
         ensures grows { Grows self.old self.new 1 }
         ensures pool { (nodes : List Node) → PoolFits self.old nodes → PoolFits self.new nodes }
+        ensures drivers { (pool : PoolValue) → DriversFit self.old pool → DriversFit self.new pool }
     {
         let number = self.regs.len() as u32;
         self.room -= 1;
@@ -168,6 +173,7 @@ impl Module {
         ensures room { self.new.room + 1 ≡ self.old.room }
         ensures grows { Grows self.old self.new 1 }
         ensures pool { (nodes : List Node) → PoolFits self.old nodes → PoolFits self.new nodes }
+        ensures drivers { (pool : PoolValue) → DriversFit self.old pool → DriversFit self.new pool }
     {
         let number = self.arrays.len() as u32;
         self.room -= 1;

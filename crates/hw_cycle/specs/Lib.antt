@@ -1,0 +1,6 @@
+pub mod State
+pub mod Inputs
+pub mod Evaluate
+pub mod Levels
+pub mod Commit
+pub mod Sample

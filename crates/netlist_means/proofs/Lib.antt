@@ -1,0 +1,4 @@
+pub mod Finds
+pub mod Values
+pub mod Contents
+pub mod Meant

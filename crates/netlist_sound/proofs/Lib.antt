@@ -1,0 +1,16 @@
+pub mod Fine
+pub mod NameKinds
+pub mod Selects
+pub mod Widths
+pub mod Infos
+pub mod Spreads
+pub mod LinesFine
+pub mod NameLists
+pub mod Sizes
+pub mod Known
+pub mod KnownBefore
+pub mod Unseen
+pub mod NamesOnce
+pub mod DriversOnce
+pub mod Driven
+pub mod Sound

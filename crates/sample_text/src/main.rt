@@ -1,0 +1,82 @@
+//! The program: writes one of the sample modules on standard output.
+#![tactic(auto)]
+
+ghost use Rattle.std.specs.Prelude.{◌≤◌, IfOk};
+ghost use Rattle.hw_module.specs.Checked.{IsChecked};
+ghost use Rattle.module_netlist.specs.Written.{thing_count};
+
+use core_host::{Host, RealHost};
+use hw_sample::{Sample, SampleRefusal, large, small};
+use std::alloc::Global;
+use std::env::{self, Env};
+use std::io;
+use std::process::ExitCode;
+use verilog_write::{WriteRefusal, write_module};
+
+/// Which module to write.
+#[derive(Clone, Copy, Debug, PartialEq, Eq)]
+enum Choice {
+    Small,
+    Large,
+}
+
+fn main(rt: HostRuntime) -> ExitCode {
+    let alloc = rt.alloc();
+    let status = match asked(&rt) {
+        Ok(Some(choice)) => {
+            let mut host = RealHost::new(alloc, rt, rt.stdout(), rt.stderr());
+            write(alloc, choice, &mut host)
+        }
+        Ok(None) => 2,
+        Err(_error) => 3,
+    };
+    ExitCode::from(status)
+}
+
+/// What the words of the call choose: the one word `small` or `large`.
+fn asked<R: Env + Alloc>(rt: &R) -> io::Result<Option<Choice>> {
+    let mut words = env::args(rt)?.skip(1);
+    let found = match words.next() {
+        Some(word) => named(word.as_str()),
+        None => None,
+    };
+    match words.next() {
+        Some(_word) => Ok(None),
+        None => Ok(found),
+    }
+}
+
+/// The choice of a name.
+fn named(word: &str) -> Option<Choice> {
+    match word {
+        "small" => Some(Choice::Small),
+        "large" => Some(Choice::Large),
+        _ => None,
+    }
+}
+
+/// Makes a module.
+fn make(alloc: Global, choice: Choice) -> Result<Sample, SampleRefusal>
+    ensures checked { IfOk result (λ s. IsChecked s.circuit s.pool) }
+    ensures few { IfOk result (λ s. thing_count s.circuit s.pool ≤ 65535) }
+{
+    match choice {
+        Choice::Small => small(alloc),
+        Choice::Large => large(alloc),
+    }
+}
+
+/// Writes a module on the main port, and answers the status of the program.
+fn write<H: Host>(alloc: Global, choice: Choice, host: &mut H) -> u8 {
+    match make(alloc, choice) {
+        Ok(sample) => match write_module(alloc, &sample.circuit, &sample.pool, host) {
+            Ok(()) => 0,
+            Err(WriteRefusal::WriteFault) => 4,
+            Err(WriteRefusal::NoMemory) => 3,
+        },
+        Err(_refusal) => 3,
+    }
+}
+
+#[cfg(test)]
+mod tests;
