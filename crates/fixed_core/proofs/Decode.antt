@@ -4,7 +4,7 @@ use Rattle.std.proofs.Common.{◌≡◌, ℕ, zero, suc, ◌^◌, ◌<◌, ◌�
 use Rattle.std.proofs.lemmas.Bool.Decides.{nat_tests}
 use Rattle.std.proofs.lemmas.Nat.{and_mask}
 use Rattle.core_words.specs.Fields.{rs1_of, rs2_of, imm_i, imm_u}
-use Rattle.isa_table.specs.Rows.{Row, row_of}
+use Rattle.isa_table.specs.Rows.{TableRow, row_of}
 use Rattle.isa_table.specs.Rows as row
 use Rattle.isa_table.proofs.Disjoint.{are_apart, first_row, first_le, meets_first}
 use Rattle.isa_model.specs.Machine.{Machine, register, has_row}
@@ -14,7 +14,7 @@ use Rattle.fixed_core.specs.FixedSet.{fixed_set}
 use Rattle.fixed_core.proofs.Model.{Tests, tests_of, known, second_by, value_1, value_2, value_3, value_4, value_by, cause_by}
 
 -- the rows of the core; the table may have others, which the set does not claim
-abbrev rows : List Row
+abbrev rows : List TableRow
 rows =
     row.lui ∷ row.addi ∷ row.xori ∷ row.ori ∷ row.andi ∷ row.add ∷ row.sub ∷ row.xor ∷ row.or ∷ row.and ∷ row.ecall ∷ row.ebreak ∷ []
 
@@ -62,7 +62,7 @@ tests_are_one word h =
     }
 
 -- the first row whose test is true
-unfoldable pub picked : Tests → Option Row
+unfoldable pub picked : Tests → Option TableRow
 picked t =
     elim t.lui [
       | true ↦ Some row.lui

@@ -1,2 +1,5 @@
 pub mod Examples
 pub mod Disjoint
+pub mod Overlap
+pub mod Places
+pub mod Numbers

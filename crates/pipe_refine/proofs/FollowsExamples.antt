@@ -1,17 +1,18 @@
 -- Runs that follow the machine, and runs that do not.
-use Rattle.std.proofs.Common.{◌≡◌, ℕ, zero, suc, ◌+◌, ◌<◌, Bool, true, false, List, [], ◌∷◌, Option, Some, None, ◌⊎◌, inl, inr, refl, sym, ap, subst, ◌∙◌, arith}
+use Rattle.std.proofs.Common.{◌≡◌, ℕ, zero, suc, Bool, true, false, [], ◌∷◌, Option, Some, None, ◌⊎◌, inl, inr, refl, sym, ap, subst, ◌∙◌, arith}
+use Rattle.core_words.specs.Fields.{rd_of}
 use Rattle.bus_law.specs.Protocol.{is_given, is_accepted, is_write, writes_before}
 use Rattle.bus_law.specs.Duties.{breaks_standing, breaks_waiting, breaks_form, KeepsDuties}
 use Rattle.bus_law.specs.Memory.{Store}
 use Rattle.core_ports.specs.Ports.{ev_valid, ev_pc, ib_cmd_valid, db_cmd_valid}
 use Rattle.core_ports.specs.Trace.{Bus, Trace, PortEvent, on_port, has_event, port_event, instruction_bus, data_bus, lines_at}
-use Rattle.isa_table.specs.Rows.{Row, Action, row_of}
-use Rattle.isa_table.specs.Rows.Action.{Computes, CallsEnvironment, Breaks}
+use Rattle.isa_table.specs.Rows.{TableRow, Action, CsrChange, row_of}
+use Rattle.isa_table.specs.Rows.Action.{Computes, Jumps, Branches, Loads, Stores, Fences, FencesFetches, CallsEnvironment, Breaks, AccessesCsr, Returns, Waits}
 use Rattle.isa_csr.specs.Csrs.{pending}
-use Rattle.isa_model.specs.Machine.{Set, has_row, Machine, Fetched, Event, shown}
+use Rattle.isa_model.specs.Machine.{Set, has_row, Machine, Fetched, shown}
 use Rattle.isa_model.specs.Machine.Fetched.{Word, Error}
-use Rattle.isa_model.specs.Step.{Moment, Done, trap, retirement, act, act_of_row, outcome_of, interrupt}
-use Rattle.isa_model.specs.Run.{Entry, History, IsRun, Continues}
+use Rattle.isa_model.specs.Step.{Moment, Done, trap, value_for, retirement, go_to, branch, word_read, loaded, load_held, load, store_at, store, access_held, access, with_system, wait, act, act_of_row, outcome_of, interrupt}
+use Rattle.isa_model.specs.Run.{History, IsRun, Continues}
 use Rattle.pipe_refine.specs.Follows.{Follows, Goes, moment_at}
 
 -- ---- the first event is at the machine's pc
@@ -27,6 +28,9 @@ retirement_pc : (m : Machine) (word rd : ℕ) (value : Option ℕ) → (shown (r
 retirement_pc m word rd None = refl
 retirement_pc m word rd (Some value) = refl
 
+retire_pc : (m : Machine) (word : ℕ) (value : Option ℕ) → (shown (retirement m word (rd_of word) (value_for (rd_of word) value))).pc ≡ m.pc
+retire_pc m word value = retirement_pc m word (rd_of word) (value_for (rd_of word) value)
+
 -- what is done, if it is done, is done at this pc
 abbrev AtPc : ℕ → Option Done → Type 0
 AtPc pc o = (d : Done) → o ≡ Some d → (shown d.event).pc ≡ pc
@@ -34,12 +38,64 @@ AtPc pc o = (d : Done) → o ≡ Some d → (shown d.event).pc ≡ pc
 at_pc : (pc : ℕ) (x : Done) → (shown x.event).pc ≡ pc → AtPc pc (Some x)
 at_pc pc x h d e = ap (λ (y : Done). (shown y.event).pc) (sym (some_is x d e)) ∙ h
 
+go_to_pc : (is_aligned system : Bool) (m : Machine) (word : ℕ) (value : Option ℕ) (target : ℕ) → (shown (go_to is_aligned system m word value target).event).pc ≡ m.pc
+go_to_pc true system m word value target = retire_pc m word value
+go_to_pc false system m word value target = trap_pc system m word 0 target None
+
+branch_pc : (is_taken system : Bool) (m : Machine) (word target : ℕ) → (shown (branch is_taken system m word target).event).pc ≡ m.pc
+branch_pc true system m word target = go_to_pc _ system m word None target
+branch_pc false system m word target = refl
+
+load_pc : (is_aligned system : Bool) (m : Machine) (word addr size : ℕ) (is_signed : Bool) → (shown (load is_aligned system m word addr size is_signed).event).pc ≡ m.pc
+load_pc true system m word addr size is_signed = held_pc (word_read m.memory addr)
+  where
+    held_pc : (held : Option ℕ) → (shown (load_held system m word addr size is_signed held).event).pc ≡ m.pc
+    held_pc (Some held) = retire_pc m word (Some (loaded held addr size is_signed))
+    held_pc None = trap_pc system m word 5 addr None
+load_pc false system m word addr size is_signed = trap_pc system m word 4 addr None
+
+store_at_pc : (is_taken system : Bool) (m : Machine) (word addr : ℕ) (write : Store) → (shown (store_at is_taken system m word addr write).event).pc ≡ m.pc
+store_at_pc true system m word addr write = refl
+store_at_pc false system m word addr write = trap_pc system m word 7 addr (Some write)
+
+store_pc : (is_aligned system : Bool) (m : Machine) (word addr size value : ℕ) → (shown (store is_aligned system m word addr size value).event).pc ≡ m.pc
+store_pc true system m word addr size value = store_at_pc _ system m word addr _
+store_pc false system m word addr size value = trap_pc system m word 6 addr None
+
+access_held_pc : (is_refused system : Bool) (m : Machine) (word number : ℕ) (change : CsrChange) (operand : ℕ) (writes : Bool) (old : ℕ)
+    → (shown (access_held is_refused system m word number change operand writes old).event).pc ≡ m.pc
+access_held_pc true system m word number change operand writes old = trap_pc system m word 2 word None
+access_held_pc false system m word number change operand writes old = retire_pc m word (Some old)
+
+access_pc : (system : Bool) (m : Machine) (word number : ℕ) (change : CsrChange) (operand : ℕ) (writes : Bool) (old : Option ℕ)
+    → (shown (access system m word number change operand writes old).event).pc ≡ m.pc
+access_pc system m word number change operand writes None = trap_pc system m word 2 word None
+access_pc system m word number change operand writes (Some old) = access_held_pc _ system m word number change operand writes old
+
+with_system_pc : (system : Bool) (m : Machine) (word : ℕ) (o : Option Done) → AtPc m.pc o → AtPc m.pc (with_system system m word o)
+with_system_pc true m word o h = h
+with_system_pc false m word o h = at_pc m.pc _ (trap_pc false m word 2 word None)
+
+wait_pc : (wakes : Bool) (m : Machine) (word : ℕ) → AtPc m.pc (wait wakes m word)
+wait_pc true m word = at_pc m.pc _ refl
+wait_pc false m word = λ d e. absurd cc
+
 act_pc : (system : Bool) (m : Machine) (word : ℕ) (moment : Moment) (a : Action) → AtPc m.pc (act system m word moment a)
-act_pc system m word moment (Computes value) = at_pc m.pc _ (retirement_pc m word _ _)
+act_pc system m word moment (Computes value) = at_pc m.pc _ (retire_pc m word (Some value))
+act_pc system m word moment (Jumps value target) = at_pc m.pc _ (go_to_pc _ system m word (Some value) target)
+act_pc system m word moment (Branches is_taken target) = at_pc m.pc _ (branch_pc is_taken system m word target)
+act_pc system m word moment (Loads addr size is_signed) = at_pc m.pc _ (load_pc _ system m word addr size is_signed)
+act_pc system m word moment (Stores addr size value) = at_pc m.pc _ (store_pc _ system m word addr size value)
+act_pc system m word moment Fences = at_pc m.pc _ refl
+act_pc system m word moment FencesFetches = at_pc m.pc _ refl
 act_pc system m word moment CallsEnvironment = at_pc m.pc _ (trap_pc system m word 11 0 None)
 act_pc system m word moment Breaks = at_pc m.pc _ (trap_pc system m word 3 0 None)
+act_pc system m word moment (AccessesCsr number change operand writes) =
+    with_system_pc system m word _ (at_pc m.pc _ (access_pc system m word number change operand writes _))
+act_pc system m word moment Returns = with_system_pc system m word _ (at_pc m.pc _ refl)
+act_pc system m word moment Waits = with_system_pc system m word _ (wait_pc _ m word)
 
-row_pc : (system : Bool) (m : Machine) (word : ℕ) (moment : Moment) (o : Option Row) → AtPc m.pc (act_of_row system m word moment o)
+row_pc : (system : Bool) (m : Machine) (word : ℕ) (moment : Moment) (o : Option TableRow) → AtPc m.pc (act_of_row system m word moment o)
 row_pc system m word moment None = at_pc m.pc _ (trap_pc system m word 2 word None)
 row_pc system m word moment (Some row) = act_pc system m word moment _
 

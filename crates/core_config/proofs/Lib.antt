@@ -1,0 +1,6 @@
+mod KeyLemmas
+mod EntryLemmas
+mod Answered
+mod Documents
+pub mod Allows
+pub mod Lacks

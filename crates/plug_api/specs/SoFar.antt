@@ -1,0 +1,20 @@
+-- How far configuring has come.
+use Rattle.std.specs.Prelude.{◌≡◌, ℕ, ◌≤◌, ◌<◌, List, length, get_or, Option}
+use Rattle.stage_map.specs.declared.config.PlugEntry.{PlugEntry}
+use Rattle.plug_api.specs.declared.spec.PlugSpec.{PlugSpec}
+use Rattle.plug_api.specs.declared.spec.ParamFault.{ParamFault}
+use Rattle.plug_api.specs.Spec.{IsSpec, no_spec}
+use Rattle.plug_api.specs.Picks.{AreConfigured, AreFaultless}
+
+-- what the boxes of the first entries say of themselves now
+pub record AreSaid {B : Type 0} (now : B → PlugSpec) (boxes : List B) (picks : List ℕ) (count : ℕ) (specs : List PlugSpec) : Type 0 where
+  pub one_each : length specs ≡ count
+  pub are : (d : B) (i : ℕ) → i < count → get_or specs i no_spec ≡ now (get_or boxes (get_or picks i 0) d)
+  pub fit : (i : ℕ) → i < count → IsSpec (get_or specs i no_spec)
+
+-- the first entries are configured, none of them has a fault, and the boxes of the others are untouched
+pub record ConfiguredSoFar {B : Type 0} (kind : B → List ℕ) (taken : B → Option PlugEntry) (now : B → PlugSpec) (fault : B → PlugEntry → Option ParamFault) (spec : B → PlugEntry → PlugSpec)
+    (old new : List B) (picks : List ℕ) (entries : List PlugEntry) (total count : ℕ) : Type 0 where
+  pub configured : AreConfigured kind taken now fault spec old new picks entries count
+  pub faultless : AreFaultless fault old picks entries count
+  pub rest : (d : B) (j : ℕ) → count ≤ j → j < total → get_or new (get_or picks j 0) d ≡ get_or old (get_or picks j 0) d

@@ -1,0 +1,22 @@
+//! What a plug-in is, and which configurations of plug-ins are accepted.
+#![tactic(auto)]
+
+mod acceptance;
+mod checks;
+mod claims;
+mod configure;
+mod copies;
+mod picks;
+mod plugin;
+mod refusal;
+mod spec;
+
+pub use acceptance::accept;
+pub use plugin::Plugin;
+pub use refusal::RuleRefusal;
+pub use spec::{Cost, ParamFault, Place, Plan, PlugSpec};
+
+#[cfg(test)]
+mod spec_box;
+#[cfg(test)]
+mod tests;

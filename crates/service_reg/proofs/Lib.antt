@@ -1,0 +1,5 @@
+pub mod Crowds
+pub mod Offers
+pub mod Walks
+pub mod Places
+pub mod Refused

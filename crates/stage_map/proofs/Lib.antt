@@ -1,0 +1,5 @@
+pub mod Firsts
+pub mod Writers
+pub mod Pairs
+pub mod Refused
+pub mod Unique
