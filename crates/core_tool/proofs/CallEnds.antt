@@ -3,6 +3,9 @@ use Rattle.std.proofs.Common.{◌≡◌, ◌≤◌, ◌⊎◌, inl, inr, ℕ, Li
 use Rattle.std.proofs.lemmas.Bool.{cases_lt}
 use Rattle.core_host.specs.Outside.{Files, Appends, IsCut, IsMissing}
 use Rattle.bus_law.specs.Memory.{Memory, IsMemory}
+use Rattle.stage_map.specs.declared.config.MemShape.{MemShape}
+use Rattle.stage_map.specs.declared.config.Config.{Config}
+use Rattle.core_config.specs.Allowed.{IsConfig}
 use Rattle.verilog_tree.specs.declared.tree.Tree.{Tree}
 use Rattle.verilog_mean.specs.Erase.{plain_tree}
 use Rattle.core_sim.specs.declared.ended.Ended.{Ended}
@@ -13,18 +16,18 @@ use Rattle.core_sim.specs.Over.{IsOverBuses}
 use Rattle.core_tool.specs.declared.ends.CallEnd.{CallEnd}
 use Rattle.core_tool.specs.declared.ends.CallEnd.TheVariants.{Written, BadWords, Refused, BadFile, BadImage, OutOfMemory, Unwritten, CyclesEnded, Stopped}
 use Rattle.core_tool.specs.declared.options.Options.{Options}
-use Rattle.core_tool.specs.Config.{config_of}
+use Rattle.core_tool.specs.Fixed.{fixed_config_of}
 use Rattle.core_tool.specs.Words.{Form, Run}
-use Rattle.core_tool.specs.Files.{Gives, IsAccepted, IsResetPc, Pulled, PulledUnlessFault, config_name, image_name}
+use Rattle.core_tool.specs.Files.{Gives, IsAccepted, Pulled, PulledUnlessFault, config_name, image_name}
 use Rattle.core_tool.specs.CoreRun.{IsCoreTree}
 use Rattle.core_tool.specs.Parts.{ForBytes, IsConfigEnd, IsImageEnd, IsLoaded, IsSimulated, PulledOne}
 use Rattle.core_tool.specs.Call.{IsEnd, IsRunText}
 use Rattle.core_tool.proofs.Calls.{Rose-earlier, PulledUnlessFault-later}
 use Rattle.core_tool.proofs.Runs.{core_run}
 
-pub gives : (form : Option Form) (name : List ℕ) (files : Option Files) (n : ℕ) → config_name form ≡ Some name → IsResetPc n
-    → ForBytes name files (λ bytes. config_of bytes ≡ Ok n) → Gives form files n
-gives form name files n named is h = (is, record { name = name; is_name = named; bytes = h.0; file = h.1; fact = h.2 })
+pub gives : (form : Option Form) (name : List ℕ) (files : Option Files) (c : Config) → config_name form ≡ Some name → IsConfig c
+    → ForBytes name files (λ bytes. fixed_config_of bytes ≡ Ok c) → Gives form files c
+gives form name files c named is h = (is, record { name = name; is_name = named; bytes = h.0; file = h.1; fact = h.2 })
 
 -- ---- the ends
 
@@ -57,106 +60,106 @@ config_ends form name files reads reads' writes writes' main main' Unwritten nam
 config_ends form name files reads reads' writes writes' main main' (CyclesEnded events cycles) named same h = absurd h
 config_ends form name files reads reads' writes writes' main main' (Stopped cause pc events cycles) named same h = absurd h
 
-pub image_ends : (form : Option Form) (config name : List ℕ) (files : Option Files) (reads reads' writes writes' : ℕ) (main main' : Option (List ℕ)) (end : CallEnd)
-    → config_name form ≡ Some config → image_name form ≡ Some name → IsAccepted form files → main' ≡ main
-    → IsImageEnd name files reads reads' end → IsEnd form files reads reads' writes writes' main main' end
-image_ends form config name files reads reads' writes writes' main main' (BadImage fault) first named accepted same h = record {
+pub image_ends : (form : Option Form) (config name : List ℕ) (files : Option Files) (c : Config) (reads reads' writes writes' : ℕ) (main main' : Option (List ℕ))
+    (end : CallEnd) → config_name form ≡ Some config → image_name form ≡ Some name → Gives form files c → main' ≡ main
+    → IsImageEnd name files c.mem reads reads' end → IsEnd form files reads reads' writes writes' main main' end
+image_ends form config name files c reads reads' writes writes' main main' (BadImage fault) first named given same h = record {
   text = [];
-  cause = (accepted, record { name = name; is_name = named; bytes = h.0; file = h.1; fact = h.2 });
+  cause = record { config = c; gives = given; refused = record { name = name; is_name = named; bytes = h.0; file = h.1; fact = h.2 } };
   on_main = same;
   unwritten = λ e. cc;
 }
-image_ends form config name files reads reads' writes writes' main main' BadFile first named accepted same (inl rose) = record {
+image_ends form config name files c reads reads' writes writes' main main' BadFile first named given same (inl rose) = record {
   text = [];
   cause = (config, first, inl rose);
   on_main = same;
   unwritten = λ e. cc;
 }
-image_ends form config name files reads reads' writes writes' main main' BadFile first named accepted same (inr missing) = record {
+image_ends form config name files c reads reads' writes writes' main main' BadFile first named given same (inr missing) = record {
   text = [];
-  cause = (config, first, inr (inr (accepted, (name, named, missing))));
+  cause = (config, first, inr (inr ((c, given), (name, named, missing))));
   on_main = same;
   unwritten = λ e. cc;
 }
-image_ends form config name files reads reads' writes writes' main main' OutOfMemory first named accepted same h =
+image_ends form config name files c reads reads' writes writes' main main' OutOfMemory first named given same h =
     record { text = []; cause = tt; on_main = same; unwritten = λ e. cc }
-image_ends form config name files reads reads' writes writes' main main' Written first named accepted same h = absurd h
-image_ends form config name files reads reads' writes writes' main main' BadWords first named accepted same h = absurd h
-image_ends form config name files reads reads' writes writes' main main' (Refused refusal) first named accepted same h = absurd h
-image_ends form config name files reads reads' writes writes' main main' Unwritten first named accepted same h = absurd h
-image_ends form config name files reads reads' writes writes' main main' (CyclesEnded events cycles) first named accepted same h = absurd h
-image_ends form config name files reads reads' writes writes' main main' (Stopped cause pc events cycles) first named accepted same h = absurd h
+image_ends form config name files c reads reads' writes writes' main main' Written first named given same h = absurd h
+image_ends form config name files c reads reads' writes writes' main main' BadWords first named given same h = absurd h
+image_ends form config name files c reads reads' writes writes' main main' (Refused refusal) first named given same h = absurd h
+image_ends form config name files c reads reads' writes writes' main main' Unwritten first named given same h = absurd h
+image_ends form config name files c reads reads' writes writes' main main' (CyclesEnded events cycles) first named given same h = absurd h
+image_ends form config name files c reads reads' writes writes' main main' (Stopped cause pc events cycles) first named given same h = absurd h
 
-pub image_end_earlier : (name : List ℕ) (files files' : Option Files) (before mid now : ℕ) (end : CallEnd) → files' ≡ files → before ≤ mid
-    → IsImageEnd name files' mid now end → IsImageEnd name files before now end
-image_end_earlier name files files' before mid now (BadImage fault) same less h = subst (λ f. IsImageEnd name f mid now (BadImage fault)) same h
-image_end_earlier name files files' before mid now BadFile same less (inl rose) = inl (Rose-earlier before mid now less rose)
-image_end_earlier name files files' before mid now BadFile same less (inr missing) = inr (subst (λ f. IsMissing name f) same missing)
-image_end_earlier name files files' before mid now OutOfMemory same less h = tt
-image_end_earlier name files files' before mid now Written same less h = h
-image_end_earlier name files files' before mid now BadWords same less h = h
-image_end_earlier name files files' before mid now (Refused refusal) same less h = h
-image_end_earlier name files files' before mid now Unwritten same less h = h
-image_end_earlier name files files' before mid now (CyclesEnded events cycles) same less h = h
-image_end_earlier name files files' before mid now (Stopped cause pc events cycles) same less h = h
+pub image_end_earlier : (name : List ℕ) (mem : MemShape) (files files' : Option Files) (before mid now : ℕ) (end : CallEnd) → files' ≡ files → before ≤ mid
+    → IsImageEnd name files' mem mid now end → IsImageEnd name files mem before now end
+image_end_earlier name mem files files' before mid now (BadImage fault) same less h = subst (λ f. IsImageEnd name f mem mid now (BadImage fault)) same h
+image_end_earlier name mem files files' before mid now BadFile same less (inl rose) = inl (Rose-earlier before mid now less rose)
+image_end_earlier name mem files files' before mid now BadFile same less (inr missing) = inr (subst (λ f. IsMissing name f) same missing)
+image_end_earlier name mem files files' before mid now OutOfMemory same less h = tt
+image_end_earlier name mem files files' before mid now Written same less h = h
+image_end_earlier name mem files files' before mid now BadWords same less h = h
+image_end_earlier name mem files files' before mid now (Refused refusal) same less h = h
+image_end_earlier name mem files files' before mid now Unwritten same less h = h
+image_end_earlier name mem files files' before mid now (CyclesEnded events cycles) same less h = h
+image_end_earlier name mem files files' before mid now (Stopped cause pc events cycles) same less h = h
 
 -- what a run was asked for and stands on
-pub record IsSetUp (config image : List ℕ) (options : Options) (files : Option Files) (reset_pc : ℕ) (t : Tree) (m : Memory) : Type 0 where
-  pub gives : Gives (Some (Run config image options)) files reset_pc
-  pub loaded : IsLoaded image files m
+pub record IsSetUp (name image : List ℕ) (options : Options) (files : Option Files) (config : Config) (t : Tree) (m : Memory) : Type 0 where
+  pub gives : Gives (Some (Run name image options)) files config
+  pub loaded : IsLoaded image files config.mem m
   pub is_memory : IsMemory m
-  pub core : IsCoreTree reset_pc t
+  pub core : IsCoreTree config.shape.reset_pc t
 
 -- the text of that run
 abbrev set_text : Options → Tree → Memory → List ℕ
 set_text options t m = run_text options.trace (run_of (plain_tree t) m (options.wait ∷ [])) options.cycles
 
-run_text_of : (config image : List ℕ) (options : Options) (files : Option Files) (reset_pc : ℕ) (t : Tree) (m : Memory) (ended : Ended)
-    → IsSetUp config image options files reset_pc t m → ended ≡ end_of (run_of (plain_tree t) m (options.wait ∷ [])) options.cycles
-    → IsOverBuses (plain_tree t) m (options.wait ∷ []) → IsRunText (Some (Run config image options)) files ended (set_text options t m)
-run_text_of config image options files reset_pc t m ended set ends over = record {
-  config = config;
+run_text_of : (name image : List ℕ) (options : Options) (files : Option Files) (config : Config) (t : Tree) (m : Memory) (ended : Ended)
+    → IsSetUp name image options files config t m → ended ≡ end_of (run_of (plain_tree t) m (options.wait ∷ [])) options.cycles
+    → IsOverBuses (plain_tree t) m (options.wait ∷ []) → IsRunText (Some (Run name image options)) files ended (set_text options t m)
+run_text_of name image options files config t m ended set ends over = record {
+  name = name;
   image = image;
   options = options;
   is_run = refl;
-  reset_pc = reset_pc;
+  config = config;
   gives = set.gives;
   bytes = set.loaded.image;
   file = set.loaded.file;
   fits = set.loaded.fits;
-  run = core_run reset_pc set.loaded.image options t m ended set.core set.loaded.loaded set.is_memory ends over;
+  run = core_run config set.loaded.image options t m ended set.core set.loaded.loaded set.is_memory ends over;
 }
 
-pub run_ends : (config image : List ℕ) (options : Options) (files : Option Files) (reset_pc : ℕ) (t : Tree) (m : Memory)
+pub run_ends : (name image : List ℕ) (options : Options) (files : Option Files) (config : Config) (t : Tree) (m : Memory)
     (reads reads' writes mid writes' : ℕ) (main before main' : Option (List ℕ)) (end : CallEnd)
-    → IsSetUp config image options files reset_pc t m → before ≡ main → writes ≤ mid
+    → IsSetUp name image options files config t m → before ≡ main → writes ≤ mid
     → IsSimulated (plain_tree t) m options before main' mid writes' end
-    → IsEnd (Some (Run config image options)) files reads reads' writes writes' main main' end
-run_ends config image options files reset_pc t m reads reads' writes mid writes' main before main' (CyclesEnded events cycles) set same less h = record {
+    → IsEnd (Some (Run name image options)) files reads reads' writes writes' main main' end
+run_ends name image options files config t m reads reads' writes mid writes' main before main' (CyclesEnded events cycles) set same less h = record {
   text = set_text options t m;
-  cause = run_text_of config image options files reset_pc t m (run_end.CyclesEnded events cycles) set h.ends h.over;
+  cause = run_text_of name image options files config t m (run_end.CyclesEnded events cycles) set h.ends h.over;
   on_main = subst (λ p. Appends p (set_text options t m) main') same h.text;
   unwritten = λ e. cc;
 }
-run_ends config image options files reset_pc t m reads reads' writes mid writes' main before main' (Stopped cause pc events cycles) set same less h = record {
+run_ends name image options files config t m reads reads' writes mid writes' main before main' (Stopped cause pc events cycles) set same less h = record {
   text = set_text options t m;
-  cause = run_text_of config image options files reset_pc t m (run_end.Stopped cause pc events cycles) set h.ends h.over;
+  cause = run_text_of name image options files config t m (run_end.Stopped cause pc events cycles) set h.ends h.over;
   on_main = subst (λ p. Appends p (set_text options t m) main') same h.text;
   unwritten = λ e. cc;
 }
-run_ends config image options files reset_pc t m reads reads' writes mid writes' main before main' Unwritten set same less h = record {
+run_ends name image options files config t m reads reads' writes mid writes' main before main' Unwritten set same less h = record {
   text = set_text options t m;
-  cause = inr (end_of (run_of (plain_tree t) m (options.wait ∷ [])) options.cycles, run_text_of config image options files reset_pc t m _ set refl h.over);
+  cause = inr (end_of (run_of (plain_tree t) m (options.wait ∷ [])) options.cycles, run_text_of name image options files config t m _ set refl h.over);
   on_main = subst (λ p. IsCut p (set_text options t m) main') same h.text;
   unwritten = λ e. Rose-earlier writes mid writes' less h.rose;
 }
-run_ends config image options files reset_pc t m reads reads' writes mid writes' main before main' OutOfMemory set same less h =
+run_ends name image options files config t m reads reads' writes mid writes' main before main' OutOfMemory set same less h =
     record { text = []; cause = tt; on_main = h ∙ same; unwritten = λ e. cc }
-run_ends config image options files reset_pc t m reads reads' writes mid writes' main before main' Written set same less h = absurd h
-run_ends config image options files reset_pc t m reads reads' writes mid writes' main before main' BadWords set same less h = absurd h
-run_ends config image options files reset_pc t m reads reads' writes mid writes' main before main' (Refused refusal) set same less h = absurd h
-run_ends config image options files reset_pc t m reads reads' writes mid writes' main before main' BadFile set same less h = absurd h
-run_ends config image options files reset_pc t m reads reads' writes mid writes' main before main' (BadImage fault) set same less h = absurd h
+run_ends name image options files config t m reads reads' writes mid writes' main before main' Written set same less h = absurd h
+run_ends name image options files config t m reads reads' writes mid writes' main before main' BadWords set same less h = absurd h
+run_ends name image options files config t m reads reads' writes mid writes' main before main' (Refused refusal) set same less h = absurd h
+run_ends name image options files config t m reads reads' writes mid writes' main before main' BadFile set same less h = absurd h
+run_ends name image options files config t m reads reads' writes mid writes' main before main' (BadImage fault) set same less h = absurd h
 
 -- ---- what was pulled
 

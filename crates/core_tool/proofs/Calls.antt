@@ -1,81 +1,138 @@
 -- The parts of a call, from what was read and pulled.
-use Rattle.std.proofs.Common.{◌≡◌, ◌≤◌, ◌<◌, inl, inr, ◌++◌, ℕ, nat_lt, List, length, Option, Some, None, Ok, Err, false, refl, sym, ap, ◌∙◌, subst, append-nil, arith, length-append}
-use Rattle.std.proofs.lemmas.Bool.{cases_lt, lt-ltb}
+use Rattle.std.proofs.Common.{◌≡◌, ◌≤◌, ◌<◌, ◌+◌, ◌⊎◌, inl, inr, ◌++◌, ℕ, eqb, nat_lt, List, [], ◌∷◌, length, Option, Some, None, Result, Ok, Err, true, false, codes, refl, sym, ap, ◌∙◌, subst, append-nil, arith, length-append}
+use Rattle.std.proofs.lemmas.Bool.{cases_lt, lt-ltb, eqb-true}
 use Rattle.std.proofs.lemmas.Bool.Decides.{nat_tests}
 use Rattle.core_host.specs.Outside.{Files, Rose, IsRead, PulledAtMost, held}
-use Rattle.core_tool.specs.declared.config.ConfigRefusal.{ConfigRefusal}
-use Rattle.core_tool.specs.declared.config.ConfigError.TheVariants.{Refused as RefusedError}
+use Rattle.stage_map.specs.declared.config.MemShape.{MemShape}
+use Rattle.stage_map.specs.declared.config.Config.{Config}
+use Rattle.core_config.specs.declared.refusal.ConfigRefusal.{ConfigRefusal}
+use Rattle.core_config.specs.declared.refusal.ConfigRefusal.TheVariants.{NoMemory, Shape, TooLong as TooLongConfig}
+use Rattle.core_config.specs.declared.refusal.Want.TheVariants.{NoKey}
+use Rattle.stage_map.specs.declared.config.PlugEntry.{PlugEntry}
+use Rattle.core_config.specs.Config.{IsAnswer, config_of, of_text, then_read}
 use Rattle.core_tool.specs.declared.ends.ImageFault.{ImageFault}
 use Rattle.core_tool.specs.declared.ends.ImageFault.TheVariants.{TooLong, Outside}
-use Rattle.core_tool.specs.Config.{config_of}
-use Rattle.core_tool.specs.Files.{IsFile, PulledUnlessFault, image_fault}
+use Rattle.core_tool.specs.Fixed.{fixed_config_of, fixed_of, unless_entries}
+use Rattle.core_tool.specs.Lines.{refusal_line}
+use Rattle.core_tool.specs.Files.{IsFile, IsRefusedWith, PulledUnlessFault, image_fault}
 use Rattle.core_tool.specs.Parts.{ForBytes}
-use Rattle.core_tool.proofs.Configs.{IsAnswer, answer_ok, answer_refused, config_of-long}
 
--- what was read up to one byte past the limit tells as much as the file
-pub whole_file : (name : List ℕ) (files : Option Files) (read : List ℕ) → IsRead 1048576 name files read
-    → (bytes : List ℕ) × IsFile name files bytes × (config_of bytes ≡ config_of read)
-whole_file name None read h = (read, tt, refl)
+-- an answer that is a configuration, or a refusal other than a lack of memory, is what the bytes say
+pub answer_ok : (p : Result Config ConfigRefusal) (c : Config) → IsAnswer (Ok c) p → p ≡ Ok c
+answer_ok p c (inl h) = sym h
+answer_ok p c (inr h) = cc
+
+pub answer_refused : (p : Result Config ConfigRefusal) (refusal : ConfigRefusal) → (refusal ≡ NoMemory → ⊥) → IsAnswer (Err refusal) p → p ≡ Err refusal
+answer_refused p refusal other (inl h) = sym h
+answer_refused p refusal other (inr h) = absurd (other cc)
+
+-- ---- the configuration
+
+pub fixed_refused : (bytes : List ℕ) (refusal : ConfigRefusal) → IsAnswer (Err refusal) (config_of bytes) → IsAnswer (Err refusal) (fixed_config_of bytes)
+unfolding fixed_config_of
+fixed_refused bytes refusal (inl h) = inl (ap (λ p. then_read p fixed_of) h)
+fixed_refused bytes refusal (inr h) = inr h
+
+-- what is read of a configuration that was read
+fixed_read : (bytes : List ℕ) (c : Config) → IsAnswer (Ok c) (config_of bytes) → fixed_config_of bytes ≡ unless_entries c.entries c
+unfolding fixed_config_of
+fixed_read bytes c h = ap (λ p. then_read p fixed_of) (answer_ok (config_of bytes) c h)
+
+no_entries : (entries : List PlugEntry) (c : Config) → eqb (length entries) 0 ≡ true → unless_entries entries c ≡ Ok c
+no_entries [] c h = refl
+no_entries (entry ∷ entries) c h = absurd (omega (arith, eqb-true (length (entry ∷ entries)) 0 h))
+
+some_entries : (entries : List PlugEntry) (c : Config) → eqb (length entries) 0 ≡ false → unless_entries entries c ≡ Err (Shape (of_text (codes "plugin")) NoKey)
+some_entries [] c h = cc
+some_entries (entry ∷ entries) c h = refl
+
+pub fixed_accepted : (bytes : List ℕ) (c : Config) → IsAnswer (Ok c) (config_of bytes) → eqb (length c.entries) 0 ≡ true → IsAnswer (Ok c) (fixed_config_of bytes)
+fixed_accepted bytes c h e = inl (sym (fixed_read bytes c h ∙ no_entries c.entries c e))
+
+pub fixed_entries : (bytes : List ℕ) (c : Config) (refusal : ConfigRefusal) → IsAnswer (Ok c) (config_of bytes) → eqb (length c.entries) 0 ≡ false
+    → (refusal ≡ Shape (of_text (codes "plugin")) NoKey) ⊎ (refusal ≡ NoMemory) → IsAnswer (Err refusal) (fixed_config_of bytes)
+fixed_entries bytes c refusal h e (inl is) = inl (ap Err is ∙ sym (fixed_read bytes c h ∙ some_entries c.entries c e))
+fixed_entries bytes c refusal h e (inr is) = inr (ap Err is)
+
+fixed_config_of-long : (bytes : List ℕ) → 1048576 < length bytes → fixed_config_of bytes ≡ Err (TooLongConfig (length bytes))
+unfolding fixed_config_of config_of
+fixed_config_of-long bytes long = rw (lt-ltb _ _ long)
+
+-- what was read up to one byte past the limit is the file, or both are too long
+whole_file : (name : List ℕ) (files : Option Files) (read : List ℕ) → IsRead 1048576 name files read
+    → (bytes : List ℕ) × IsFile name files bytes × ((bytes ≡ read) ⊎ ((1048576 < length read) × (1048576 < length bytes)))
+whole_file name None read h = (read, tt, inl refl)
 whole_file name (Some files) read (rest, held, ends) =
     let grows = length-append read rest in
-    let same : config_of (read ++ rest) ≡ config_of read = elim (cases_lt 1048576 (length read)) [
-      | inl long ↦ config_of-long (read ++ rest) (omega (arith, grows, long)) ∙ sym (config_of-long read long)
-      | inr short ↦ ap (λ l. config_of (read ++ l)) (ends short) ∙ ap config_of (append-nil read)
-    ] in
-    (read ++ rest, held, same)
+    elim (cases_lt 1048576 (length read)) [
+      | inl long ↦ (read ++ rest, held, inr (long, omega (arith, grows, long)))
+      | inr short ↦ (read ++ rest, held, inl (ap (λ l. read ++ l) (ends short) ∙ append-nil read))
+    ]
 
-pub config_given : (name : List ℕ) (files : Option Files) (read : List ℕ) (n : ℕ) → IsRead 1048576 name files read → IsAnswer (Ok n) (config_of read)
-    → ForBytes name files (λ bytes. config_of bytes ≡ Ok n)
-config_given name files read n h answer =
+pub config_given : (name : List ℕ) (files : Option Files) (read : List ℕ) (c : Config) → IsRead 1048576 name files read → IsAnswer (Ok c) (fixed_config_of read)
+    → ForBytes name files (λ bytes. fixed_config_of bytes ≡ Ok c)
+config_given name files read c h answer =
     let w = whole_file name files read h in
-    (w.0, w.1, w.2 ∙ answer_ok (config_of read) n answer)
+    let e = answer_ok (fixed_config_of read) c answer in
+    elim w.2 [
+      | inl same ↦ (w.0, w.1, ap fixed_config_of same ∙ e)
+      | inr long ↦ let other = fixed_config_of-long read long.0 in cc
+    ]
 
 pub config_refused : (name : List ℕ) (files : Option Files) (read : List ℕ) (refusal : ConfigRefusal) → IsRead 1048576 name files read
-    → IsAnswer (Err (RefusedError refusal)) (config_of read) → ForBytes name files (λ bytes. config_of bytes ≡ Err refusal)
-config_refused name files read refusal h answer =
+    → (refusal ≡ NoMemory → ⊥) → IsAnswer (Err refusal) (fixed_config_of read) → ForBytes name files (IsRefusedWith refusal)
+config_refused name files read refusal h other answer =
     let w = whole_file name files read h in
-    (w.0, w.1, w.2 ∙ answer_refused (config_of read) refusal answer)
+    let e = answer_refused (fixed_config_of read) refusal other answer in
+    elim w.2 [
+      | inl same ↦ (w.0, w.1, (refusal, ap fixed_config_of same ∙ e, refl))
+      | inr long ↦
+          let both : Err (TooLongConfig (length read)) ≡ Err refusal = sym (fixed_config_of-long read long.0) ∙ e in
+          let is : TooLongConfig (length read) ≡ refusal = cc in
+          (w.0, w.1, (TooLongConfig (length w.0), fixed_config_of-long w.0 long.1, ap refusal_line is))
+    ]
 
 -- ---- the image
 
-pub image_fault-long : (bytes : List ℕ) → 67108864 < length bytes → image_fault bytes ≡ Some TooLong
+pub image_fault-long : (mem : MemShape) (bytes : List ℕ) → 67108864 < length bytes → image_fault mem bytes ≡ Some TooLong
 unfolding image_fault
-image_fault-long bytes long = rw (lt-ltb _ _ long)
+image_fault-long mem bytes long = rw (lt-ltb _ _ long)
 
-pub image_fault-outside : (bytes : List ℕ) → length bytes ≤ 67108864 → 65536 < length bytes → image_fault bytes ≡ Some (Outside 0x80010000)
+pub image_fault-outside : (mem : MemShape) (bytes : List ℕ) → length bytes ≤ 67108864 → mem.size < length bytes
+    → image_fault mem bytes ≡ Some (Outside (mem.base + mem.size))
 unfolding image_fault
-image_fault-outside bytes short long =
+image_fault-outside mem bytes short long =
     let test : nat_lt 67108864 (length bytes) ≡ false = grind (arith, nat_tests) in
     rw (test, lt-ltb _ _ long)
 
-pub image_fault-fits : (bytes : List ℕ) → length bytes ≤ 65536 → image_fault bytes ≡ None
+pub image_fault-fits : (mem : MemShape) (bytes : List ℕ) → mem.size ≤ 16777216 → length bytes ≤ mem.size → image_fault mem bytes ≡ None
 unfolding image_fault
-image_fault-fits bytes short =
+image_fault-fits mem bytes small short =
     let first : nat_lt 67108864 (length bytes) ≡ false = grind (arith, nat_tests) in
-    let second : nat_lt 65536 (length bytes) ≡ false = grind (arith, nat_tests) in
+    let second : nat_lt mem.size (length bytes) ≡ false = grind (arith, nat_tests) in
     rw (first, second)
 
-pub whole_image : (name : List ℕ) (files : Option Files) (read : List ℕ) → IsRead 67108864 name files read
-    → (bytes : List ℕ) × IsFile name files bytes × (image_fault bytes ≡ image_fault read)
-whole_image name None read h = (read, tt, refl)
-whole_image name (Some files) read (rest, held, ends) =
+pub whole_image : (mem : MemShape) (name : List ℕ) (files : Option Files) (read : List ℕ) → IsRead 67108864 name files read
+    → (bytes : List ℕ) × IsFile name files bytes × (image_fault mem bytes ≡ image_fault mem read)
+whole_image mem name None read h = (read, tt, refl)
+whole_image mem name (Some files) read (rest, held, ends) =
     let grows = length-append read rest in
-    let same : image_fault (read ++ rest) ≡ image_fault read = elim (cases_lt 67108864 (length read)) [
-      | inl long ↦ image_fault-long (read ++ rest) (omega (arith, grows, long)) ∙ sym (image_fault-long read long)
-      | inr short ↦ ap (λ l. image_fault (read ++ l)) (ends short) ∙ ap image_fault (append-nil read)
+    let same : image_fault mem (read ++ rest) ≡ image_fault mem read = elim (cases_lt 67108864 (length read)) [
+      | inl long ↦ image_fault-long mem (read ++ rest) (omega (arith, grows, long)) ∙ sym (image_fault-long mem read long)
+      | inr short ↦ ap (λ l. image_fault mem (read ++ l)) (ends short) ∙ ap (image_fault mem) (append-nil read)
     ] in
     (read ++ rest, held, same)
 
-pub image_refused : (name : List ℕ) (files : Option Files) (read : List ℕ) (fault : ImageFault) → IsRead 67108864 name files read
-    → image_fault read ≡ Some fault → ForBytes name files (λ bytes. image_fault bytes ≡ Some fault)
-image_refused name files read fault h e =
-    let w = whole_image name files read h in
+pub image_refused : (mem : MemShape) (name : List ℕ) (files : Option Files) (read : List ℕ) (fault : ImageFault) → IsRead 67108864 name files read
+    → image_fault mem read ≡ Some fault → ForBytes name files (λ bytes. image_fault mem bytes ≡ Some fault)
+image_refused mem name files read fault h e =
+    let w = whole_image mem name files read h in
     (w.0, w.1, w.2 ∙ e)
 
 -- an image that fits was read whole
-pub short_image : (name : List ℕ) (files : Option Files) (read : List ℕ) → IsRead 67108864 name files read → length read ≤ 65536 → IsFile name files read
-short_image name None read h short = tt
-short_image name (Some files) read (rest, held, ends) short =
+pub short_image : (name : List ℕ) (files : Option Files) (read : List ℕ) (size : ℕ) → IsRead 67108864 name files read → length read ≤ size → size ≤ 16777216 → IsFile name files read
+short_image name None read size h short small = tt
+short_image name (Some files) read size (rest, held, ends) short small =
     held ∙ ap (λ l. Some (read ++ l)) (ends (omega arith)) ∙ ap Some (append-nil read)
 
 -- ---- counts of faults

@@ -1,5 +1,3 @@
-pub mod Keys
-pub mod Configs
 pub mod Calls
 pub mod OptionWords
 pub mod Pieces

@@ -6,6 +6,8 @@ use Rattle.core_host.specs.TextHost.{Texts, fresh, text_on}
 use Rattle.core_host.specs.declared.host.Port.TheVariants.{Main}
 use Rattle.core_ports.specs.Trace.{Trace}
 use Rattle.bus_law.specs.Memory.{Memory, IsMemory}
+use Rattle.stage_map.specs.declared.config.MemShape.{MemShape}
+use Rattle.stage_map.specs.declared.config.Config.{Config}
 use Rattle.image_load.specs.declared.refusal.ImageRefusal.{ImageRefusal}
 use Rattle.image_load.specs.declared.refusal.ImageRefusal.TheVariants as image
 use Rattle.isa_model.specs.Machine.{machine_from}
@@ -30,12 +32,12 @@ use Rattle.core_tool.specs.CoreRun.{IsCoreTree, IsCoreRun, bytes_with, memory_of
 
 -- ---- memory
 
-pub memory_loaded : (size : ℕ) (image : List ℕ) (old new : Memory) → old ≡ record { base = 0x80000000; bytes = replicate size 0 }
-    → new ≡ record old { bytes = image ++ drop (length image) old.bytes } → new ≡ record { base = 0x80000000; bytes = bytes_with size image }
+pub memory_loaded : (mem : MemShape) (image : List ℕ) (old new : Memory) → old ≡ record { base = mem.base; bytes = replicate mem.size 0 }
+    → new ≡ record old { bytes = image ++ drop (length image) old.bytes } → new ≡ memory_of mem image
 unfolding bytes_with
-memory_loaded size image old new e f =
+memory_loaded mem image old new e f =
     f ∙ ap (λ m. record { base = m.base; bytes = image ++ drop (length image) m.bytes }) e
-    ∙ ap (λ l. record { base = 0x80000000; bytes = image ++ l }) (drop-replicate (length image) size 0)
+    ∙ ap (λ l. record { base = mem.base; bytes = image ++ l }) (drop-replicate (length image) mem.size 0)
 
 -- why a refusal of an image comes
 pub is_long : (e : ImageRefusal) (len n end : ℕ) → e ≡ image.TooLong len → (e ≡ image.TooLong n) ⊎ (e ≡ image.Outside end)
@@ -47,6 +49,9 @@ pub is_outside : (e : ImageRefusal) (addr n end : ℕ) → e ≡ image.Outside a
     → (R : Type 0) → ((e ≡ image.Outside end) → R) → R
 is_outside e addr n end is (inl long) R h = cc
 is_outside e addr n end is (inr outside) R h = h outside
+
+pub same_address : (e : ImageRefusal) (addr end : ℕ) → e ≡ image.Outside addr → e ≡ image.Outside end → addr ≡ end
+same_address e addr end is h = cc
 
 -- ---- the text and the tree
 
@@ -107,14 +112,15 @@ follows_zeros t reset_pc m delays refines is_memory over n =
     subst (λ regs. Follows fixed_set (machine_from fixed_set regs reset_pc m) (run_of t m delays) n) zeros
     (from.follows (run_inputs t m delays) over.inputs m is_memory n (over.honest n)).0
 
-pub core_run : (reset_pc : ℕ) (image : List ℕ) (options : Options) (t : Tree) (m : Memory) (ended : Ended) → IsCoreTree reset_pc t → m ≡ memory_of image → IsMemory m
+pub core_run : (config : Config) (image : List ℕ) (options : Options) (t : Tree) (m : Memory) (ended : Ended) → IsCoreTree config.shape.reset_pc t
+    → m ≡ memory_of config.mem image → IsMemory m
     → ended ≡ end_of (run_of (plain_tree t) m (options.wait ∷ [])) options.cycles → IsOverBuses (plain_tree t) m (options.wait ∷ [])
-    → IsCoreRun reset_pc image options ended (run_text options.trace (run_of (plain_tree t) m (options.wait ∷ [])) options.cycles)
-core_run reset_pc image options t m ended core same is_memory ends over = record {
+    → IsCoreRun config image options ended (run_text options.trace (run_of (plain_tree t) m (options.wait ∷ [])) options.cycles)
+core_run config image options t m ended core same is_memory ends over = record {
   tree = t;
   core = core;
   ends = ends ∙ ap (λ m. end_of (run_of (plain_tree t) m (options.wait ∷ [])) options.cycles) same;
   lines = ap (λ m. run_text options.trace (run_of (plain_tree t) m (options.wait ∷ [])) options.cycles) same;
-  follows = λ n. subst (λ m. Follows fixed_set (machine_from fixed_set (replicate 32 0) reset_pc m) (run_of (plain_tree t) m (options.wait ∷ [])) n) same
-      (follows_zeros (plain_tree t) reset_pc m (options.wait ∷ []) core.refines is_memory over n);
+  follows = λ n. subst (λ m. Follows fixed_set (machine_from fixed_set (replicate 32 0) config.shape.reset_pc m) (run_of (plain_tree t) m (options.wait ∷ [])) n) same
+      (follows_zeros (plain_tree t) config.shape.reset_pc m (options.wait ∷ []) core.refines is_memory over n);
 }

@@ -1,17 +1,20 @@
 -- What the end of the work says of the call: its ends once the line is written, and its clauses status by status.
-use Rattle.std.proofs.Common.{◌≡◌, ◌≤◌, inl, inr, ℕ, List, [], length, Option, Some, None, Ok, Err, refl, sym, ap, ◌∙◌, subst, arith}
+use Rattle.std.proofs.Common.{◌≡◌, ◌≤◌, inl, inr, ℕ, List, [], length, Option, Some, None, Ok, refl, sym, ap, ◌∙◌, subst, arith}
 use Rattle.core_host.specs.Outside.{Files, Rose, Appends, IsCut, held}
 use Rattle.core_sim.specs.declared.ended.Ended.{Ended}
 use Rattle.core_sim.specs.declared.ended.Ended.TheVariants as run_end
 use Rattle.core_tool.specs.declared.status.Status.{Status}
 use Rattle.core_tool.specs.declared.status.Status.TheVariants as status
+use Rattle.stage_map.specs.declared.config.Config.{Config}
+use Rattle.core_config.specs.declared.refusal.ConfigRefusal.{ConfigRefusal}
 use Rattle.core_tool.specs.declared.ends.ImageFault.{ImageFault}
 use Rattle.core_tool.specs.declared.ends.CallEnd.{CallEnd}
 use Rattle.core_tool.specs.declared.ends.CallEnd.TheVariants.{Written, BadWords, Refused, BadFile, BadImage, OutOfMemory, Unwritten, CyclesEnded, Stopped}
-use Rattle.core_tool.specs.Config.{config_of}
+use Rattle.core_tool.specs.Fixed.{fixed_config_of}
 use Rattle.core_tool.specs.Words.{Form}
-use Rattle.core_tool.specs.Lines.{line_of, status_of, cycles_line, stopped_line}
-use Rattle.core_tool.specs.Files.{ForFile, Holds, HoldsFile, HoldsImage, IsUnread, MissesFile, Pulled, config_name, image_fault, image_name}
+use Rattle.core_tool.specs.Lines.{line_of, refusal_line, status_of, cycles_line, stopped_line}
+use Rattle.core_config.specs.Allowed.{IsConfig}
+use Rattle.core_tool.specs.Files.{ForFile, Gives, Holds, HoldsFile, HoldsImage, IsImageRefusedAs, IsRefusedAs, IsRefusedWith, IsUnread, MissesFile, Pulled, config_name, image_fault, image_name}
 use Rattle.core_tool.specs.Call.{GotCutText, GotRun, HasLine, IsCause, IsEnd, IsRunStatus, IsRunText, IsUnlessCut, OnMain}
 use Rattle.core_tool.proofs.Calls.{Rose-later, PulledUnlessFault-later, image_fault-fits}
 use Rattle.core_tool.proofs.Pieces.{grown-nil}
@@ -99,60 +102,116 @@ read_held form files before now bytes image (name, named, inl rose) h i calm = c
 read_held form files before now bytes image (name, named, inr (inl missing)) h i calm = held_missing (config_name form) files bytes missing h
 read_held form files before now bytes image (name, named, inr (inr missing)) h i calm = held_missing (image_name form) files image missing.1 i
 
+-- the configuration that is held is the one that the words give
+same_config : (form : Option Form) (files : Option Files) (bytes : List ℕ) (given config : Config) → Gives form files given → Holds form files bytes
+    → fixed_config_of bytes ≡ Ok config → given ≡ config
+same_config form files bytes given config g h ok =
+    let said = held_bytes (config_name form) files (λ b. fixed_config_of b ≡ Ok given) bytes g.1 h in
+    cc
+
+-- and it is not refused
+not_refused : (form : Option Form) (files : Option Files) (bytes : List ℕ) (config : Config) (refusal : ConfigRefusal)
+    → ForFile (config_name form) files (IsRefusedWith refusal) → Holds form files bytes → fixed_config_of bytes ≡ Ok config → ⊥
+not_refused form files bytes config refusal r h ok =
+    let said = held_bytes (config_name form) files (IsRefusedWith refusal) bytes r h in
+    let bad = said.1 in
+    cc
+
 -- the image of a run fits
-run_fits : (form : Option Form) (files : Option Files) (ended : Ended) (text image : List ℕ) → IsRunText form files ended text → HoldsImage form files image
-    → length image ≤ 65536
+run_fits : (form : Option Form) (files : Option Files) (ended : Ended) (text image : List ℕ) (r : IsRunText form files ended text) → HoldsImage form files image
+    → length image ≤ r.config.mem.size
 run_fits form files ended text image r h =
-    held_bytes (image_name form) files (λ b. length b ≤ 65536) image
+    held_bytes (image_name form) files (λ b. length b ≤ r.config.mem.size) image
     (record { name = r.image; is_name = ap image_name r.is_run; bytes = r.bytes; file = r.file; fact = r.fits }) h
 
-not_refused : (image : List ℕ) (fault : ImageFault) → length image ≤ 65536 → image_fault image ≡ Some fault → ⊥
-not_refused image fault fits e = let none = image_fault-fits image fits in cc
+image_accepted : (config : Config) (image : List ℕ) (fault : ImageFault) → IsConfig config → length image ≤ config.mem.size
+    → image_fault config.mem image ≡ Some fault → ⊥
+image_accepted config image fault is fits e = let none = image_fault-fits config.mem image is.mem.size_at_most fits in cc
+
+run_accepted : (form : Option Form) (files : Option Files) (ended : Ended) (text bytes image : List ℕ) (config : Config) (fault : ImageFault)
+    → IsRunText form files ended text → Holds form files bytes → fixed_config_of bytes ≡ Ok config → HoldsImage form files image
+    → image_fault config.mem image ≡ Some fault → ⊥
+run_accepted form files ended text bytes image config fault r h ok i e =
+    let same = same_config form files bytes r.config config r.gives h ok in
+    image_accepted r.config image fault r.gives.0 (run_fits form files ended text image r i)
+    (subst (λ c. image_fault c.mem image ≡ Some fault) (sym same) e)
+
+image_refused_fits : (form : Option Form) (files : Option Files) (bytes image : List ℕ) (config : Config) (fault : ImageFault)
+    → IsImageRefusedAs form files fault → Holds form files bytes → fixed_config_of bytes ≡ Ok config → HoldsImage form files image
+    → length image ≤ config.mem.size → ⊥
+image_refused_fits form files bytes image config fault r h ok i fits =
+    let same = same_config form files bytes r.config config r.gives h ok in
+    image_accepted r.config image fault r.gives.0 (subst (λ c. length image ≤ c.mem.size) (sym same) fits)
+    (held_bytes (image_name form) files (λ b. image_fault r.config.mem b ≡ Some fault) image r.refused i)
 
 -- ---- status by status
 
 pub image_clause : (form : Option Form) (files : Option Files) (reads reads' writes writes' : ℕ) (main main' : Option (List ℕ)) (end : CallEnd) (result : Status)
     → IsEnd form files reads reads' writes writes' main main' end → result ≡ status_of end
-    → (bytes image : List ℕ) (reset_pc : ℕ) (fault : ImageFault) → Holds form files bytes → config_of bytes ≡ Ok reset_pc
-    → HoldsImage form files image → image_fault image ≡ Some fault → ¬ (Rose reads reads') → IsUnlessCut status.ImageRefused result
+    → (bytes image : List ℕ) (config : Config) (fault : ImageFault) → Holds form files bytes → fixed_config_of bytes ≡ Ok config
+    → HoldsImage form files image → image_fault config.mem image ≡ Some fault → ¬ (Rose reads reads') → IsUnlessCut status.ImageRefused result
 image_clause form files reads reads' writes writes' main main' Written result h e bytes image n fault c ok i f calm =
     absurd (no_name (image_name form) files image (ap image_name h.cause.is_gen.1) i)
 image_clause form files reads reads' writes writes' main main' BadWords result h e bytes image n fault c ok i f calm =
     absurd (no_name (image_name form) files image (ap image_name h.cause) i)
 image_clause form files reads reads' writes writes' main main' (Refused refusal) result h e bytes image n fault c ok i f calm =
-    let bad = held_bytes (config_name form) files (λ b. config_of b ≡ Err refusal) bytes h.cause c in
-    let both : Ok n ≡ Err refusal = sym ok ∙ bad in
-    absurd cc
+    absurd (not_refused form files bytes n refusal h.cause c ok)
 image_clause form files reads reads' writes writes' main main' (BadImage other) result h e bytes image n fault c ok i f calm = inl e
 image_clause form files reads reads' writes writes' main main' BadFile result h e bytes image n fault c ok i f calm =
     absurd (read_held form files reads reads' bytes image h.cause c i calm)
 image_clause form files reads reads' writes writes' main main' OutOfMemory result h e bytes image n fault c ok i f calm = inr (inr e)
 image_clause form files reads reads' writes writes' main main' Unwritten result h e bytes image n fault c ok i f calm = inr (inl e)
 image_clause form files reads reads' writes writes' main main' (CyclesEnded events cycles) result h e bytes image n fault c ok i f calm =
-    absurd (not_refused image fault (run_fits form files _ h.text image h.cause i) f)
+    absurd (run_accepted form files _ h.text bytes image n fault h.cause c ok i f)
 image_clause form files reads reads' writes writes' main main' (Stopped cause pc events cycles) result h e bytes image n fault c ok i f calm =
-    absurd (not_refused image fault (run_fits form files _ h.text image h.cause i) f)
+    absurd (run_accepted form files _ h.text bytes image n fault h.cause c ok i f)
 
 pub run_clause : (form : Option Form) (files : Option Files) (reads reads' writes writes' : ℕ) (main main' : Option (List ℕ)) (end : CallEnd) (result : Status)
     → IsEnd form files reads reads' writes writes' main main' end → result ≡ status_of end
-    → (bytes image : List ℕ) (reset_pc : ℕ) → Holds form files bytes → config_of bytes ≡ Ok reset_pc
-    → HoldsImage form files image → length image ≤ 65536 → ¬ (Rose reads reads') → ¬ (Rose writes writes') → IsRunStatus result
+    → (bytes image : List ℕ) (config : Config) → Holds form files bytes → fixed_config_of bytes ≡ Ok config
+    → HoldsImage form files image → length image ≤ config.mem.size → ¬ (Rose reads reads') → ¬ (Rose writes writes') → IsRunStatus result
 run_clause form files reads reads' writes writes' main main' Written result h e bytes image n c ok i fits calm calm' =
     absurd (no_name (image_name form) files image (ap image_name h.cause.is_gen.1) i)
 run_clause form files reads reads' writes writes' main main' BadWords result h e bytes image n c ok i fits calm calm' =
     absurd (no_name (image_name form) files image (ap image_name h.cause) i)
 run_clause form files reads reads' writes writes' main main' (Refused refusal) result h e bytes image n c ok i fits calm calm' =
-    let bad = held_bytes (config_name form) files (λ b. config_of b ≡ Err refusal) bytes h.cause c in
-    let both : Ok n ≡ Err refusal = sym ok ∙ bad in
-    absurd cc
+    absurd (not_refused form files bytes n refusal h.cause c ok)
 run_clause form files reads reads' writes writes' main main' (BadImage fault) result h e bytes image n c ok i fits calm calm' =
-    absurd (not_refused image fault fits (held_bytes (image_name form) files (λ b. image_fault b ≡ Some fault) image h.cause.1 i))
+    absurd (image_refused_fits form files bytes image n fault h.cause c ok i fits)
 run_clause form files reads reads' writes writes' main main' BadFile result h e bytes image n c ok i fits calm calm' =
     absurd (read_held form files reads reads' bytes image h.cause c i calm)
 run_clause form files reads reads' writes writes' main main' OutOfMemory result h e bytes image n c ok i fits calm calm' = inr (inr e)
 run_clause form files reads reads' writes writes' main main' Unwritten result h e bytes image n c ok i fits calm calm' = absurd (calm' (h.unwritten refl))
 run_clause form files reads reads' writes writes' main main' (CyclesEnded events cycles) result h e bytes image n c ok i fits calm calm' = inl e
 run_clause form files reads reads' writes writes' main main' (Stopped cause pc events cycles) result h e bytes image n c ok i fits calm calm' = inr (inl e)
+
+refused_end : (end : CallEnd) → status_of end ≡ status.ConfigRefused → (refusal : ConfigRefusal) × (end ≡ Refused refusal)
+refused_end Written e = cc
+refused_end BadWords e = cc
+refused_end (Refused refusal) e = (refusal, refl)
+refused_end (BadImage fault) e = cc
+refused_end BadFile e = cc
+refused_end OutOfMemory e = cc
+refused_end Unwritten e = cc
+refused_end (CyclesEnded events cycles) e = cc
+refused_end (Stopped cause pc events cycles) e = cc
+
+first_refusal : (form : Option Form) (files : Option Files) (refusal : ConfigRefusal) (notes notes' : Option (List ℕ))
+    → ForFile (config_name form) files (IsRefusedWith refusal) → Appends notes (refusal_line refusal) notes'
+    → (first : ConfigRefusal) × IsRefusedAs form files first × Appends notes (refusal_line first) notes'
+first_refusal form files refusal notes notes' r a = (
+  r.fact.0,
+  record { name = r.name; is_name = r.is_name; bytes = r.bytes; file = r.file; fact = r.fact.1 },
+  subst (λ l. Appends notes l notes') (sym r.fact.2) a,
+)
+
+pub refused_clause : (form : Option Form) (files : Option Files) (reads reads' writes writes' : ℕ) (main main' notes notes' : Option (List ℕ)) (end : CallEnd) (result : Status)
+    → IsEnd form files reads reads' writes writes' main main' end → result ≡ status_of end → Appends notes (line_of end) notes' → result ≡ status.ConfigRefused
+    → (refusal : ConfigRefusal) × IsRefusedAs form files refusal × Appends notes (refusal_line refusal) notes'
+refused_clause form files reads reads' writes writes' main main' notes notes' end result h e a is =
+    let found = refused_end end (sym e ∙ is) in
+    let done = subst (λ x. IsEnd form files reads reads' writes writes' main main' x) found.1 h in
+    first_refusal form files found.0 notes notes' done.cause (subst (λ x. Appends notes (line_of x) notes') found.1 a)
 
 -- which ends have a run's status
 cycles_end : (end : CallEnd) → status_of end ≡ status.CyclesEnded → (events cycles : ℕ) × (end ≡ CyclesEnded events cycles)
@@ -235,7 +294,7 @@ for_missing named (Some files) P r m =
 
 run_missing : (form : Option Form) (files : Option Files) (ended : Ended) (text : List ℕ) → IsRunText form files ended text → MissesFile (image_name form) files → ⊥
 run_missing form files ended text r m =
-    for_missing (image_name form) files (λ b. length b ≤ 65536)
+    for_missing (image_name form) files (λ b. length b ≤ r.config.mem.size)
     (record { name = r.image; is_name = ap image_name r.is_run; bytes = r.bytes; file = r.file; fact = r.fits }) m
 
 no_image : (form : Option Form) (files : Option Files) → image_name form ≡ None → MissesFile (image_name form) files → ⊥
@@ -243,16 +302,14 @@ no_image form files e m = let other : None ≡ Some m.0 = sym e ∙ m.1 in cc
 
 pub missing_clause : (form : Option Form) (files : Option Files) (reads reads' writes writes' : ℕ) (main main' : Option (List ℕ)) (end : CallEnd) (result : Status)
     → IsEnd form files reads reads' writes writes' main main' end → result ≡ status_of end
-    → (bytes : List ℕ) (reset_pc : ℕ) → Holds form files bytes → config_of bytes ≡ Ok reset_pc
+    → (bytes : List ℕ) (config : Config) → Holds form files bytes → fixed_config_of bytes ≡ Ok config
     → MissesFile (image_name form) files → IsUnlessCut status.ReadFault result
 missing_clause form files reads reads' writes writes' main main' Written result h e bytes n c ok m = absurd (no_image form files (ap image_name h.cause.is_gen.1) m)
 missing_clause form files reads reads' writes writes' main main' BadWords result h e bytes n c ok m = absurd (no_image form files (ap image_name h.cause) m)
 missing_clause form files reads reads' writes writes' main main' (Refused refusal) result h e bytes n c ok m =
-    let bad = held_bytes (config_name form) files (λ b. config_of b ≡ Err refusal) bytes h.cause c in
-    let both : Ok n ≡ Err refusal = sym ok ∙ bad in
-    absurd cc
+    absurd (not_refused form files bytes n refusal h.cause c ok)
 missing_clause form files reads reads' writes writes' main main' (BadImage fault) result h e bytes n c ok m =
-    absurd (for_missing (image_name form) files (λ b. image_fault b ≡ Some fault) h.cause.1 m)
+    absurd (for_missing (image_name form) files (λ b. image_fault h.cause.config.mem b ≡ Some fault) h.cause.refused m)
 missing_clause form files reads reads' writes writes' main main' BadFile result h e bytes n c ok m = inl e
 missing_clause form files reads reads' writes writes' main main' OutOfMemory result h e bytes n c ok m = inr (inr e)
 missing_clause form files reads reads' writes writes' main main' Unwritten result h e bytes n c ok m = inr (inl e)

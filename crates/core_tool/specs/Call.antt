@@ -6,13 +6,14 @@ use Rattle.core_sim.specs.declared.ended.Ended.{Ended}
 use Rattle.core_sim.specs.declared.ended.Ended.TheVariants as run_end
 use Rattle.core_tool.specs.declared.status.Status.{Status}
 use Rattle.core_tool.specs.declared.status.Status.TheVariants as status
-use Rattle.core_tool.specs.declared.config.ConfigRefusal.{ConfigRefusal}
+use Rattle.stage_map.specs.declared.config.Config.{Config}
+use Rattle.core_config.specs.declared.refusal.ConfigRefusal.{ConfigRefusal}
 use Rattle.core_tool.specs.declared.ends.ImageFault.{ImageFault}
 use Rattle.core_tool.specs.declared.ends.CallEnd.{CallEnd}
 use Rattle.core_tool.specs.declared.ends.CallEnd.TheVariants.{Written, BadWords, Refused, BadFile, BadImage, OutOfMemory, Unwritten, CyclesEnded, Stopped}
 use Rattle.core_tool.specs.declared.options.Options.{Options}
 use Rattle.core_tool.specs.Words.{Form, Gen, Run}
-use Rattle.core_tool.specs.Files.{IsFile, Gives, IsRefusedAs, IsImageRefusedAs, IsUnread}
+use Rattle.core_tool.specs.Files.{IsFile, ForFile, Gives, IsRefusedWith, IsImageRefusedAs, IsUnread, config_name}
 use Rattle.core_tool.specs.CoreRun.{IsCoreRun}
 use Rattle.core_tool.specs.Lines.{status_of, line_of, refusal_line, image_line, cycles_line, stopped_line}
 
@@ -25,23 +26,23 @@ IsGen form = (name : List ℕ) × (form ≡ Some (Gen name))
 -- the words ask for the core of a configuration, and the text is such a core's
 pub record IsGenText (form : Option Form) (files : Option Files) (text : List ℕ) : Type 0 where
   pub is_gen : IsGen form
-  pub reset_pc : ℕ
-  pub gives : Gives form files reset_pc
-  pub core : IsFixedCoreText reset_pc text
+  pub config : Config
+  pub gives : Gives form files config
+  pub core : IsFixedCoreText config.shape.reset_pc text
 
 -- the words ask for a run, which ends so and has this text
 pub record IsRunText (form : Option Form) (files : Option Files) (ended : Ended) (text : List ℕ) : Type 0 where
-  pub config : List ℕ
+  pub name : List ℕ
   pub image : List ℕ
   pub options : Options
-  pub is_run : form ≡ Some (Run config image options)
-  pub reset_pc : ℕ
-  pub gives : Gives form files reset_pc
+  pub is_run : form ≡ Some (Run name image options)
+  pub config : Config
+  pub gives : Gives form files config
   pub bytes : List ℕ
   pub file : IsFile image files bytes
-  -- the image fits into the memory of a run
-  pub fits : length bytes ≤ 65536
-  pub run : IsCoreRun reset_pc bytes options ended text
+  -- the image fits into the memory of the configuration
+  pub fits : length bytes ≤ config.mem.size
+  pub run : IsCoreRun config bytes options ended text
 
 -- the words ask for this text
 abbrev pub IsTextOf : Option Form → Option Files → (text : List ℕ) → Type 0
@@ -53,7 +54,7 @@ IsTextOf form files text = IsGenText form files text ⊎ ((ended : Ended) × IsR
 abbrev pub IsCause : Option Form → Option Files → (before now : ℕ) → (text : List ℕ) → CallEnd → Type 0
 IsCause form files before now text Written = IsGenText form files text
 IsCause form files before now text BadWords = form ≡ None
-IsCause form files before now text (Refused refusal) = IsRefusedAs form files refusal
+IsCause form files before now text (Refused refusal) = ForFile (config_name form) files (IsRefusedWith refusal)
 IsCause form files before now text (BadImage fault) = IsImageRefusedAs form files fault
 IsCause form files before now text BadFile = IsUnread form files before now
 IsCause form files before now text OutOfMemory = Unit {0}

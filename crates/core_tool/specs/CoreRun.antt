@@ -2,6 +2,8 @@
 use Rattle.std.specs.Prelude.{◌≡◌, ℕ, ◌-◌, List, [], ◌∷◌, ◌++◌, length, replicate}
 use Rattle.core_ports.specs.Trace.{Trace}
 use Rattle.bus_law.specs.Memory.{Memory}
+use Rattle.stage_map.specs.declared.config.MemShape.{MemShape}
+use Rattle.stage_map.specs.declared.config.Config.{Config}
 use Rattle.isa_model.specs.Machine.{machine_from}
 use Rattle.verilog_tree.specs.declared.tree.Tree.{Tree}
 use Rattle.verilog_tree.specs.Module.{HasOneReading}
@@ -20,9 +22,9 @@ use Rattle.core_tool.specs.declared.options.Options.{Options}
 unfoldable pub bytes_with : (size : ℕ) → (image : List ℕ) → List ℕ
 bytes_with size image = image ++ replicate (size - length image) 0
 
--- the memory of a run as it starts: 65,536 bytes from 80000000 on
-abbrev pub memory_of : (image : List ℕ) → Memory
-memory_of image = record { base = 0x80000000; bytes = bytes_with 65536 image }
+-- the memory of a run as it starts, of this base and size
+abbrev pub memory_of : MemShape → (image : List ℕ) → Memory
+memory_of mem image = record { base = mem.base; bytes = bytes_with mem.size image }
 
 -- a tree is that of a text of the core with this reset pc
 pub record IsCoreTree (reset_pc : ℕ) (t : Tree) : Type 0 where
@@ -33,15 +35,16 @@ pub record IsCoreTree (reset_pc : ℕ) (t : Tree) : Type 0 where
   -- it has the core's ports, too
   pub refines : Refines (plain_tree t) fixed_set reset_pc
 
--- the run of a tree over an image
-abbrev pub run_over : Tree → (image : List ℕ) → Options → Trace
-run_over t image options = run_of (plain_tree t) (memory_of image) (options.wait ∷ [])
+-- the run of a tree over an image in a memory
+abbrev pub run_over : Tree → MemShape → (image : List ℕ) → Options → Trace
+run_over t mem image options = run_of (plain_tree t) (memory_of mem image) (options.wait ∷ [])
 
--- This is the end and this the text of the run of the core with this reset pc over an image. The run follows the machine from
--- registers that are 0: its events are those of one machine run.
-pub record IsCoreRun (reset_pc : ℕ) (image : List ℕ) (options : Options) (ended : Ended) (text : List ℕ) : Type 0 where
+-- This is the end and this the text of the run of the core of a configuration over an image in its memory. The run follows the
+-- machine from registers that are 0: its events are those of one machine run.
+pub record IsCoreRun (config : Config) (image : List ℕ) (options : Options) (ended : Ended) (text : List ℕ) : Type 0 where
   pub tree : Tree
-  pub core : IsCoreTree reset_pc tree
-  pub ends : ended ≡ end_of (run_over tree image options) options.cycles
-  pub lines : text ≡ run_text options.trace (run_over tree image options) options.cycles
-  pub follows : (n : ℕ) → Follows fixed_set (machine_from fixed_set (replicate 32 0) reset_pc (memory_of image)) (run_over tree image options) n
+  pub core : IsCoreTree config.shape.reset_pc tree
+  pub ends : ended ≡ end_of (run_over tree config.mem image options) options.cycles
+  pub lines : text ≡ run_text options.trace (run_over tree config.mem image options) options.cycles
+  pub follows : (n : ℕ) → Follows fixed_set (machine_from fixed_set (replicate 32 0) config.shape.reset_pc (memory_of config.mem image))
+      (run_over tree config.mem image options) n

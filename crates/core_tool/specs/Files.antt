@@ -1,11 +1,15 @@
 -- The files that the words name: which they are, what they say, and whether they are there.
-use Rattle.std.specs.Prelude.{◌≡◌, ◌⊎◌, ◌<◌, ◌%◌, ◌^◌, ℕ, nat_lt, List, length, Option, Some, None, Ok, Err, if◌then◌else◌}
+use Rattle.std.specs.Prelude.{◌≡◌, ◌⊎◌, ◌+◌, ℕ, nat_lt, List, length, Option, Some, None, Ok, Err, if◌then◌else◌}
 use Rattle.core_host.specs.Outside.{Files, Rose, IsMissing, SameButOne, PulledAtMost, held}
-use Rattle.core_tool.specs.declared.config.ConfigRefusal.{ConfigRefusal}
+use Rattle.stage_map.specs.declared.config.MemShape.{MemShape}
+use Rattle.stage_map.specs.declared.config.Config.{Config}
+use Rattle.core_config.specs.declared.refusal.ConfigRefusal.{ConfigRefusal}
+use Rattle.core_config.specs.Allowed.{IsConfig}
 use Rattle.core_tool.specs.declared.ends.ImageFault.{ImageFault}
 use Rattle.core_tool.specs.declared.ends.ImageFault.TheVariants.{TooLong, Outside}
-use Rattle.core_tool.specs.Config.{config_of}
+use Rattle.core_tool.specs.Fixed.{fixed_config_of}
 use Rattle.core_tool.specs.Words.{Form, Gen, Run}
+use Rattle.core_tool.specs.Lines.{refusal_line}
 
 -- ---- names
 
@@ -51,29 +55,29 @@ Holds form files bytes = HoldsFile (config_name form) files bytes
 abbrev pub Misses : Option Form → Option Files → Type 0
 Misses form files = MissesFile (config_name form) files
 
--- a reset pc: a multiple of 4 below 2 ^ 32
-abbrev pub IsResetPc : ℕ → Type 0
-IsResetPc n = (n % 4 ≡ 0) × (n < 2 ^ 32)
-
--- the words name a configuration that gives this reset pc
-abbrev pub Gives : Option Form → Option Files → (reset_pc : ℕ) → Type 0
-Gives form files reset_pc = IsResetPc reset_pc × ForFile (config_name form) files (λ bytes. config_of bytes ≡ Ok reset_pc)
+-- the words name a file whose bytes say this configuration, which there may be
+abbrev pub Gives : Option Form → Option Files → Config → Type 0
+Gives form files config = IsConfig config × ForFile (config_name form) files (λ bytes. fixed_config_of bytes ≡ Ok config)
 
 -- the words name a configuration that is accepted
 abbrev pub IsAccepted : Option Form → Option Files → Type 0
-IsAccepted form files = (reset_pc : ℕ) × Gives form files reset_pc
+IsAccepted form files = (config : Config) × Gives form files config
 
 -- the words name a configuration that is refused so
 abbrev pub IsRefusedAs : Option Form → Option Files → ConfigRefusal → Type 0
-IsRefusedAs form files refusal = ForFile (config_name form) files (λ bytes. config_of bytes ≡ Err refusal)
+IsRefusedAs form files refusal = ForFile (config_name form) files (λ bytes. fixed_config_of bytes ≡ Err refusal)
+
+-- bytes are refused with the line of this refusal; how many too long ones are is not told
+abbrev pub IsRefusedWith : ConfigRefusal → List ℕ → Type 0
+IsRefusedWith refusal bytes = (first : ConfigRefusal) × (fixed_config_of bytes ≡ Err first) × (refusal_line first ≡ refusal_line refusal)
 
 -- ---- the image
 
--- Why an image is refused, if it is: an image has at most 67,108,864 bytes, and the memory of a run 65,536, behind which is
--- the address 80010000.
-unfoldable pub image_fault : List ℕ → Option ImageFault
-image_fault bytes = if nat_lt 67108864 (length bytes) then Some TooLong
-    else (if nat_lt 65536 (length bytes) then Some (Outside 0x80010000) else None)
+-- Why an image is refused, if it is: an image has at most 67,108,864 bytes, and no more than memory has, behind which is the
+-- address that is told.
+unfoldable pub image_fault : MemShape → List ℕ → Option ImageFault
+image_fault mem bytes = if nat_lt 67108864 (length bytes) then Some TooLong
+    else (if nat_lt mem.size (length bytes) then Some (Outside (mem.base + mem.size)) else None)
 
 -- the words name an image with these bytes; behind a configuration that is accepted, an image is missing
 abbrev pub HoldsImage : Option Form → Option Files → (bytes : List ℕ) → Type 0
@@ -82,9 +86,11 @@ HoldsImage form files bytes = HoldsFile (image_name form) files bytes
 abbrev pub MissesImage : Option Form → Option Files → Type 0
 MissesImage form files = IsAccepted form files × MissesFile (image_name form) files
 
--- the configuration is accepted, and the image is refused so
-abbrev pub IsImageRefusedAs : Option Form → Option Files → ImageFault → Type 0
-IsImageRefusedAs form files fault = IsAccepted form files × ForFile (image_name form) files (λ bytes. image_fault bytes ≡ Some fault)
+-- the configuration is accepted, and the image is refused so for its memory
+pub record IsImageRefusedAs (form : Option Form) (files : Option Files) (fault : ImageFault) : Type 0 where
+  pub config : Config
+  pub gives : Gives form files config
+  pub refused : ForFile (image_name form) files (λ bytes. image_fault config.mem bytes ≡ Some fault)
 
 -- ---- reading
 

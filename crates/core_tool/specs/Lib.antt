@@ -1,7 +1,7 @@
 pub mod Status
 pub mod Options
 pub mod Words
-pub mod Config
+pub mod Fixed
 pub mod Lines
 pub mod Files
 pub mod CoreRun

@@ -1,7 +1,8 @@
 -- What the parts of a call answer: the configuration read, the image loaded, the run simulated.
-use Rattle.std.specs.Prelude.{◌≡◌, ◌⊎◌, ◌≤◌, ℕ, List, [], ◌∷◌, length, Option, Some, Err}
+use Rattle.std.specs.Prelude.{◌≡◌, ◌⊎◌, ◌≤◌, ℕ, List, [], ◌∷◌, length, Option, Some}
 use Rattle.core_host.specs.Outside.{Files, Rose, Appends, IsCut, IsMissing, SameButOne}
 use Rattle.bus_law.specs.Memory.{Memory}
+use Rattle.stage_map.specs.declared.config.MemShape.{MemShape}
 use Rattle.verilog_mean.specs.Plain.{Plain}
 use Rattle.core_sim.specs.declared.ended.Ended.{Ended}
 use Rattle.core_sim.specs.declared.ended.Ended.TheVariants as run_end
@@ -11,8 +12,7 @@ use Rattle.core_sim.specs.Over.{IsOverBuses}
 use Rattle.core_tool.specs.declared.ends.CallEnd.{CallEnd}
 use Rattle.core_tool.specs.declared.ends.CallEnd.TheVariants.{Refused, BadFile, BadImage, OutOfMemory, Unwritten, CyclesEnded, Stopped}
 use Rattle.core_tool.specs.declared.options.Options.{Options}
-use Rattle.core_tool.specs.Config.{config_of}
-use Rattle.core_tool.specs.Files.{IsFile, PulledUnlessFault, image_fault}
+use Rattle.core_tool.specs.Files.{IsFile, IsRefusedWith, PulledUnlessFault, image_fault}
 use Rattle.core_tool.specs.CoreRun.{memory_of}
 
 -- the file of that name is not read
@@ -32,26 +32,26 @@ ForBytes name files P = (bytes : List ℕ) × IsFile name files bytes × P bytes
 
 -- the end of a call whose configuration is not read or refused
 abbrev pub IsConfigEnd : (name : List ℕ) → Option Files → (before now : ℕ) → CallEnd → Type 0
-IsConfigEnd name files before now (Refused refusal) = ForBytes name files (λ bytes. config_of bytes ≡ Err refusal)
+IsConfigEnd name files before now (Refused refusal) = ForBytes name files (IsRefusedWith refusal)
 IsConfigEnd name files before now BadFile = IsUnreadFile name files before now
 IsConfigEnd name files before now OutOfMemory = Unit {0}
 IsConfigEnd name files before now other = ⊥
 
 -- ---- the image
 
--- the memory holds the image of that name
-pub record IsLoaded (name : List ℕ) (files : Option Files) (m : Memory) : Type 0 where
+-- the memory, of this shape, holds the image of that name
+pub record IsLoaded (name : List ℕ) (files : Option Files) (mem : MemShape) (m : Memory) : Type 0 where
   pub image : List ℕ
   pub file : IsFile name files image
-  pub fits : length image ≤ 65536
-  pub loaded : m ≡ memory_of image
+  pub fits : length image ≤ mem.size
+  pub loaded : m ≡ memory_of mem image
 
 -- the end of a call whose image is not read or refused
-abbrev pub IsImageEnd : (name : List ℕ) → Option Files → (before now : ℕ) → CallEnd → Type 0
-IsImageEnd name files before now (BadImage fault) = ForBytes name files (λ bytes. image_fault bytes ≡ Some fault)
-IsImageEnd name files before now BadFile = IsUnreadFile name files before now
-IsImageEnd name files before now OutOfMemory = Unit {0}
-IsImageEnd name files before now other = ⊥
+abbrev pub IsImageEnd : (name : List ℕ) → Option Files → MemShape → (before now : ℕ) → CallEnd → Type 0
+IsImageEnd name files mem before now (BadImage fault) = ForBytes name files (λ bytes. image_fault mem bytes ≡ Some fault)
+IsImageEnd name files mem before now BadFile = IsUnreadFile name files before now
+IsImageEnd name files mem before now OutOfMemory = Unit {0}
+IsImageEnd name files mem before now other = ⊥
 
 -- ---- the run
 

@@ -3,24 +3,31 @@ ghost use Rattle.core_host.specs.declared.host.Port.{Port};
 ghost use Rattle.core_host.specs.declared.host.Port.TheVariants.{Main, Notes};
 ghost use Rattle.core_host.specs.Outside.{Rose, Appends};
 ghost use Rattle.core_sim.specs.declared.ended.Ended.TheVariants as run_end;
-ghost use Rattle.core_tool.specs.declared.config.ConfigRefusal.{ConfigRefusal};
+ghost use Rattle.stage_map.specs.declared.config.Config.{Config};
+ghost use Rattle.core_config.specs.declared.refusal.ConfigRefusal.{ConfigRefusal};
+ghost use Rattle.core_config.specs.Allowed.{IsConfig};
 ghost use Rattle.core_tool.specs.declared.ends.ImageFault.{ImageFault};
-ghost use Rattle.core_tool.specs.Config.{config_of};
+ghost use Rattle.core_tool.specs.Fixed.{fixed_config_of};
 ghost use Rattle.core_tool.specs.Words.{Gen, Run, form_of, words_of};
 ghost use Rattle.core_tool.specs.Lines.{cycles_line, image_line, refusal_line, stopped_line};
-ghost use Rattle.core_tool.specs.Files.{Gives, Holds, HoldsImage, IsImageRefusedAs, IsRefusedAs, IsResetPc, IsUnread, Misses, MissesFile, Pulled, image_fault, image_name};
+ghost use Rattle.core_tool.specs.Files.{Gives, Holds, HoldsImage, IsImageRefusedAs, IsRefusedAs, IsUnread, Misses, MissesFile, Pulled, image_fault, image_name};
 ghost use Rattle.core_tool.specs.Parts.{ForBytes, IsConfigEnd, PulledOne};
 ghost use Rattle.core_tool.specs.Call.{Ends, GotCutText, GotRun, HasLine, HasNoText, IsAnswered, IsCutLine, IsEnd, IsGen, IsGenText, IsRunStatus, IsUnlessCut};
 
 use crate::Status;
-use crate::config::{CONFIG_LIMIT, ConfigError, read_config};
 use crate::ends::{CallEnd, push_line};
+use crate::fixed::read_fixed;
 use crate::options::Options;
 use crate::run::{load, own_tree, simulate};
 use crate::words::Form;
+use core_config::ConfigRefusal;
 use core_host::{Host, ReadEnd, read_file};
 use fixed_core::push_core;
+use stage_map::Config;
 use std::alloc::Global;
+
+/// The most bytes that a configuration may have.
+const CONFIG_LIMIT: usize = 1_048_576;
 
 /// Does what the words ask for, without the program's name among them, and writes a line on the
 /// port of notes that says how it ended, unless a core was written or a text was cut off.
@@ -37,21 +44,21 @@ pub fn core_main<H: Host>(alloc: Global, words: &Vec<String>, host: &mut H) -> S
         × IsRefusedAs (form_of (words_of words.now)) (H.files host.old) refusal
         × Appends (H.pushed host.old Notes) (refusal_line refusal) (H.pushed host.new Notes) }
     ensures refused { (bytes : List ℕ) → Holds (form_of (words_of words.now)) (H.files host.old) bytes
-        → IsErr (config_of bytes) → ¬ (Rose (H.read_faults host.old) (H.read_faults host.new))
+        → IsErr (fixed_config_of bytes) → ¬ (Rose (H.read_faults host.old) (H.read_faults host.new))
         → IsUnlessCut Status.ConfigRefused result }
     ensures image_only { result ≡ Status.ImageRefused → (fault : ImageFault)
         × IsImageRefusedAs (form_of (words_of words.now)) (H.files host.old) fault
         × Appends (H.pushed host.old Notes) (image_line fault) (H.pushed host.new Notes) }
-    ensures image { (bytes image : List ℕ) → (reset_pc : ℕ) → (fault : ImageFault)
-        → Holds (form_of (words_of words.now)) (H.files host.old) bytes → config_of bytes ≡ Ok reset_pc
-        → HoldsImage (form_of (words_of words.now)) (H.files host.old) image → image_fault image ≡ Some fault
+    ensures image { (bytes image : List ℕ) → (config : Config) → (fault : ImageFault)
+        → Holds (form_of (words_of words.now)) (H.files host.old) bytes → fixed_config_of bytes ≡ Ok config
+        → HoldsImage (form_of (words_of words.now)) (H.files host.old) image → image_fault config.mem image ≡ Some fault
         → ¬ (Rose (H.read_faults host.old) (H.read_faults host.new))
         → IsUnlessCut Status.ImageRefused result }
     ensures fault_only { result ≡ Status.ReadFault →
         IsUnread (form_of (words_of words.now)) (H.files host.old) (H.read_faults host.old) (H.read_faults host.new) }
     ensures fault { Misses (form_of (words_of words.now)) (H.files host.old) → IsUnlessCut Status.ReadFault result }
-    ensures image_missing { (bytes : List ℕ) → (reset_pc : ℕ)
-        → Holds (form_of (words_of words.now)) (H.files host.old) bytes → config_of bytes ≡ Ok reset_pc
+    ensures image_missing { (bytes : List ℕ) → (config : Config)
+        → Holds (form_of (words_of words.now)) (H.files host.old) bytes → fixed_config_of bytes ≡ Ok config
         → MissesFile (image_name (form_of (words_of words.now))) (H.files host.old) → IsUnlessCut Status.ReadFault result }
     ensures write_only { result ≡ Status.WriteFault → Rose (H.write_faults host.old) (H.write_faults host.new) }
     ensures done_only { result ≡ Status.Done → (text : List ℕ)
@@ -65,14 +72,14 @@ pub fn core_main<H: Host>(alloc: Global, words: &Vec<String>, host: &mut H) -> S
         × GotRun (form_of (words_of words.now)) (H.files host.old) (run_end.Stopped cause pc events cycles)
         (H.pushed host.old Main) (H.pushed host.new Main)
         × Appends (H.pushed host.old Notes) (stopped_line cause pc events cycles) (H.pushed host.new Notes) }
-    ensures complete { (bytes : List ℕ) → (reset_pc : ℕ) → IsGen (form_of (words_of words.now))
-        → Holds (form_of (words_of words.now)) (H.files host.old) bytes → config_of bytes ≡ Ok reset_pc
+    ensures complete { (bytes : List ℕ) → (config : Config) → IsGen (form_of (words_of words.now))
+        → Holds (form_of (words_of words.now)) (H.files host.old) bytes → fixed_config_of bytes ≡ Ok config
         → ¬ (Rose (H.read_faults host.old) (H.read_faults host.new))
         → ¬ (Rose (H.write_faults host.old) (H.write_faults host.new))
         → (result ≡ Status.Done) ⊎ (result ≡ Status.NoMemory) }
-    ensures run_complete { (bytes image : List ℕ) → (reset_pc : ℕ)
-        → Holds (form_of (words_of words.now)) (H.files host.old) bytes → config_of bytes ≡ Ok reset_pc
-        → HoldsImage (form_of (words_of words.now)) (H.files host.old) image → length image ≤ 65536
+    ensures run_complete { (bytes image : List ℕ) → (config : Config)
+        → Holds (form_of (words_of words.now)) (H.files host.old) bytes → fixed_config_of bytes ≡ Ok config
+        → HoldsImage (form_of (words_of words.now)) (H.files host.old) image → length image ≤ config.mem.size
         → ¬ (Rose (H.read_faults host.old) (H.read_faults host.new))
         → ¬ (Rose (H.write_faults host.old) (H.write_faults host.new))
         → IsRunStatus result }
@@ -141,23 +148,29 @@ fn generate<H: Host>(alloc: Global, name: &str, host: &mut H) -> CallEnd
     ensures reads { H.read_faults host.old ≤ H.read_faults host.new }
     ensures writes { H.write_faults host.old ≤ H.write_faults host.new }
 {
-    let reset_pc = match configure(alloc, name, host) {
-        Ok(reset_pc) => reset_pc,
+    let config = match configure(alloc, name, host) {
+        Ok(config) => config,
         Err(end) => return end,
     };
-    match push_core(host, reset_pc) {
+    match push_core(host, config.shape.reset_pc) {
         Ok(()) => CallEnd::Written,
         Err(_) => CallEnd::Unwritten,
     }
 }
 
 /// Runs the core of a configuration over an image, both of these names.
-fn run<H: Host>(alloc: Global, config: &str, image: &str, options: Options, host: &mut H) -> CallEnd
-    ensures ends { IsEnd (Some (Run config.now image.now options)) (H.files host.old)
+fn run<H: Host>(
+    alloc: Global,
+    config_file: &str,
+    image: &str,
+    options: Options,
+    host: &mut H,
+) -> CallEnd
+    ensures ends { IsEnd (Some (Run config_file.now image.now options)) (H.files host.old)
         (H.read_faults host.old) (H.read_faults host.new) (H.write_faults host.old) (H.write_faults host.new)
         (H.pushed host.old Main) (H.pushed host.new Main) result }
     ensures notes { H.pushed host.new Notes ≡ H.pushed host.old Notes }
-    ensures pulled { Pulled (Some (Run config.now image.now options)) (H.files host.old) (H.left host.old) (H.left host.new)
+    ensures pulled { Pulled (Some (Run config_file.now image.now options)) (H.files host.old) (H.left host.old) (H.left host.new)
         (H.read_faults host.old) (H.read_faults host.new) }
     ensures files { H.files host.new ≡ H.files host.old }
     ensures numbers { (m : ℕ) → H.given host.old m → H.given host.new m }
@@ -165,25 +178,25 @@ fn run<H: Host>(alloc: Global, config: &str, image: &str, options: Options, host
     ensures reads { H.read_faults host.old ≤ H.read_faults host.new }
     ensures writes { H.write_faults host.old ≤ H.write_faults host.new }
 {
-    let reset_pc = match configure(alloc, config, host) {
-        Ok(reset_pc) => reset_pc,
+    let config = match configure(alloc, config_file, host) {
+        Ok(config) => config,
         Err(end) => return end,
     };
-    let memory = match load(alloc, image, host) {
+    let memory = match load(alloc, image, config.mem, host) {
         Ok(memory) => memory,
         Err(end) => return end,
     };
-    let checked = match own_tree(alloc, reset_pc) {
+    let checked = match own_tree(alloc, config.shape.reset_pc) {
         Ok(checked) => checked,
         Err(_) => return CallEnd::OutOfMemory,
     };
     simulate(alloc, &checked, memory, options, host)
 }
 
-/// Reads the configuration of that name, and answers its reset pc.
-fn configure<H: Host>(alloc: Global, name: &str, host: &mut H) -> Result<u32, CallEnd>
-    ensures reset_pc { IfOk result (λ n. IsResetPc n) }
-    ensures given { IfOk result (λ n. ForBytes name.now (H.files host.old) (λ bytes. config_of bytes ≡ Ok n)) }
+/// Reads the configuration of that name.
+fn configure<H: Host>(alloc: Global, name: &str, host: &mut H) -> Result<Config, CallEnd>
+    ensures allowed { IfOk result (λ c. IsConfig c) }
+    ensures given { IfOk result (λ c. ForBytes name.now (H.files host.old) (λ bytes. fixed_config_of bytes ≡ Ok c)) }
     ensures ends { IfErr result (λ e. IsConfigEnd name.now (H.files host.old) (H.read_faults host.old) (H.read_faults host.new) e) }
     ensures pulled { PulledOne 1048577 name.now (H.files host.old) (H.left host.old) (H.left host.new)
         (H.read_faults host.old) (H.read_faults host.new) }
@@ -199,9 +212,11 @@ fn configure<H: Host>(alloc: Global, name: &str, host: &mut H) -> Result<u32, Ca
         Err(ReadEnd::Fault) => return Err(CallEnd::BadFile),
         Err(ReadEnd::NoMemory) => return Err(CallEnd::OutOfMemory),
     };
-    match read_config(alloc, &bytes) {
-        Ok(reset_pc) => Ok(reset_pc),
-        Err(ConfigError::Refused(refusal)) => Err(CallEnd::Refused(refusal)),
-        Err(ConfigError::NoMemory) => Err(CallEnd::OutOfMemory),
+    match read_fixed(alloc, &bytes) {
+        Ok(config) => Ok(config),
+        Err(refusal) => match refusal {
+            ConfigRefusal::NoMemory => Err(CallEnd::OutOfMemory),
+            other => Err(CallEnd::Refused(other)),
+        },
     }
 }

@@ -1,13 +1,16 @@
-ghost use Rattle.std.specs.Prelude.{◌≡◌, ◌≤◌, ℕ, OnOk, OnErr};
+ghost use Rattle.std.specs.Prelude.{◌≡◌, ◌≤◌, ℕ, OnOk, OnErr, codes, ◌++◌};
 ghost use Rattle.core_host.specs.declared.host.Port.{Port};
 ghost use Rattle.core_host.specs.declared.host.Port.TheVariants.{Notes};
 ghost use Rattle.core_host.specs.Outside.{Rose, Appends, IsCut};
-ghost use Rattle.core_tool.specs.Lines.{joined, line_of, refusal_line, status_of, stopped_line, want_ending};
+ghost use Rattle.core_tool.specs.Lines.{image_line, joined, key_line, line_of, refusal_line, status_of, stopped_line, want_ending};
 
 use crate::Status;
-use crate::config::{ConfigRefusal, Want};
 use crate::lines::{Piece, push_pieces};
+use core_config::{ConfigRefusal, KeyPath, Want};
 use core_host::{Host, HostFailed, Port};
+
+/// The number of addresses.
+const ADDRESSES: u64 = 0x1_0000_0000;
 
 /// How the work of a call ended, before its line is written.
 #[derive(Debug, Drop)]
@@ -45,7 +48,7 @@ pub enum ImageFault {
     /// It has more bytes than any image may have.
     TooLong,
     /// It has a byte for this address, the first behind memory.
-    Outside { addr: u32 },
+    Outside { addr: u64 },
 }
 
 impl CallEnd {
@@ -85,15 +88,7 @@ pub fn push_line<H: Host>(host: &mut H, end: &CallEnd) -> Result<(), HostFailed>
         CallEnd::BadWords => push_pieces(host, &[Piece::Text("usage\n")]),
         CallEnd::Refused(refusal) => push_pieces(host, &refusal_pieces(refusal)),
         CallEnd::BadFile => push_pieces(host, &[Piece::Text("read fault\n")]),
-        CallEnd::BadImage(ImageFault::TooLong) => push_pieces(host, &[Piece::Text("image long\n")]),
-        CallEnd::BadImage(ImageFault::Outside { addr }) => push_pieces(
-            host,
-            &[
-                Piece::Text("image outside addr="),
-                Piece::Hex(*addr),
-                Piece::Text("\n"),
-            ],
-        ),
+        CallEnd::BadImage(fault) => push_pieces(host, &image_pieces(*fault)),
         CallEnd::OutOfMemory => push_pieces(host, &[Piece::Text("no memory\n")]),
         CallEnd::CyclesEnded { events, cycles } => push_pieces(
             host,
@@ -115,28 +110,72 @@ pub fn push_line<H: Host>(host: &mut H, end: &CallEnd) -> Result<(), HostFailed>
 }
 
 /// The line that says why a configuration is refused.
-fn refusal_pieces(refusal: &ConfigRefusal) -> [Piece<'_>; 3]
+fn refusal_pieces(refusal: &ConfigRefusal) -> [Piece<'_>; 6]
     ensures { joined result ≡ refusal_line refusal.now }
 {
     match refusal {
-        ConfigRefusal::TooLong => [
-            Piece::Text("config long\n"),
+        ConfigRefusal::TooLong { .. } => whole_line("config long\n"),
+        ConfigRefusal::Text => whole_line("config text\n"),
+        ConfigRefusal::Shape { key, want } => key_pieces("config shape key=", key, ending(*want)),
+        ConfigRefusal::Range { key, .. } => key_pieces("config range key=", key, "\n"),
+        ConfigRefusal::NoMemory => whole_line(""),
+    }
+}
+
+/// A line that is one text.
+fn whole_line<'a>(line: &'a str) -> [Piece<'a>; 6]
+    ensures { joined result ≡ line.now }
+{
+    [
+        Piece::Text(line),
+        Piece::Text(""),
+        Piece::Text(""),
+        Piece::Text(""),
+        Piece::Text(""),
+        Piece::Text(""),
+    ]
+}
+
+/// A line with a key between these texts.
+fn key_pieces<'a>(start: &'static str, key: &'a KeyPath, ending: &'static str) -> [Piece<'a>; 6]
+    ensures { joined result ≡ start.now ++ key_line key.now ending.now }
+{
+    let name = Piece::Text(key.key.text().as_str());
+    match key.entry {
+        None => [
+            Piece::Text(start),
+            name,
+            Piece::Text(ending),
+            Piece::Text(""),
             Piece::Text(""),
             Piece::Text(""),
         ],
-        ConfigRefusal::Text => [
-            Piece::Text("config text\n"),
+        Some(number) => [
+            Piece::Text(start),
+            Piece::Text("plugin."),
+            Piece::Decimal(u64::from(number)),
+            Piece::Text("."),
+            name,
+            Piece::Text(ending),
+        ],
+    }
+}
+
+/// The line that says why an image is refused.
+fn image_pieces(fault: ImageFault) -> [Piece<'static>; 4]
+    ensures { joined result ≡ image_line fault }
+{
+    match fault {
+        ImageFault::TooLong => [
+            Piece::Text("image long\n"),
+            Piece::Text(""),
             Piece::Text(""),
             Piece::Text(""),
         ],
-        ConfigRefusal::Shape { key, want } => [
-            Piece::Text("config shape key="),
-            Piece::Text(key.text().as_str()),
-            Piece::Text(ending(*want)),
-        ],
-        ConfigRefusal::Range { key } => [
-            Piece::Text("config range key="),
-            Piece::Text(key.text().as_str()),
+        ImageFault::Outside { addr } => [
+            Piece::Text("image outside addr="),
+            Piece::Text(if addr < ADDRESSES { "" } else { "1" }),
+            Piece::Hex((addr % ADDRESSES) as u32),
             Piece::Text("\n"),
         ],
     }
@@ -165,6 +204,10 @@ fn ending(want: Want) -> &'static str
 {
     match want {
         Want::Integer => " want=integer\n",
+        Want::Text => " want=text\n",
+        Want::Table => " want=table\n",
+        Want::Tables => " want=tables\n",
+        Want::Scalar => " want=scalar\n",
         Want::NoKey => " want=nokey\n",
     }
 }

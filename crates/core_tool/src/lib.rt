@@ -2,8 +2,8 @@
 #![tactic(auto)]
 
 mod call;
-mod config;
 mod ends;
+mod fixed;
 mod lines;
 mod options;
 mod run;

@@ -2,6 +2,7 @@ ghost use Rattle.std.specs.Prelude.{◌≡◌, ◌≤◌, ◌%◌, ◌⊎◌, �
 ghost use Rattle.core_host.specs.declared.host.Port.{Port};
 ghost use Rattle.core_host.specs.declared.host.Port.TheVariants.{Main};
 ghost use Rattle.core_host.specs.TextHost.{text_on};
+ghost use Rattle.core_config.specs.Allowed.{IsMemory};
 ghost use Rattle.verilog_mean.specs.Checked.{IsChecked};
 ghost use Rattle.verilog_mean.specs.CorePorts.{HasCorePorts};
 ghost use Rattle.verilog_mean.specs.Erase.{plain_tree};
@@ -18,24 +19,25 @@ use core_host::{Host, Port, ReadEnd, TextHost, read_file};
 use core_sim::{Ended, RunOpts, SimRefusal, run_tree};
 use fixed_core::push_core;
 use image_load::{ImageRefusal, MOST_BYTES, load_raw};
+use stage_map::MemShape;
 use std::alloc::{AllocError, Global};
 use verilog_load::{TextRefusal, load_text};
 use verilog_mean::{Checked, MeanRefusal};
 use verilog_read::ReadRefusal;
 
-/// The first address of the memory of a run.
-const MEMORY_BASE: u32 = 0x8000_0000;
-
-/// The bytes of the memory of a run.
-const MEMORY_SIZE: u32 = 65_536;
-
 /// The room for the core's text, in bytes: one more than the longest text that is read.
 const TEXT_ROOM: u32 = 16_777_217;
 
-/// Reads the image of that name into the memory of a run.
-pub fn load<H: Host>(alloc: Global, name: &str, host: &mut H) -> Result<Mem, CallEnd>
-    ensures loaded { IfOk result (λ m. IsLoaded name.now (H.files host.old) m) }
-    ensures refused { IfErr result (λ e. IsImageEnd name.now (H.files host.old) (H.read_faults host.old) (H.read_faults host.new) e) }
+/// Reads the image of that name into a memory of this shape.
+pub fn load<H: Host>(
+    alloc: Global,
+    name: &str,
+    shape: MemShape,
+    host: &mut H,
+) -> Result<Mem, CallEnd>
+    requires shape { IsMemory shape }
+    ensures loaded { IfOk result (λ m. IsLoaded name.now (H.files host.old) shape m) }
+    ensures refused { IfErr result (λ e. IsImageEnd name.now (H.files host.old) shape (H.read_faults host.old) (H.read_faults host.new) e) }
     ensures pulled { PulledOne 67108865 name.now (H.files host.old) (H.left host.old) (H.left host.new)
         (H.read_faults host.old) (H.read_faults host.new) }
     ensures ports { (p : Port) → H.pushed host.new p ≡ H.pushed host.old p }
@@ -50,7 +52,7 @@ pub fn load<H: Host>(alloc: Global, name: &str, host: &mut H) -> Result<Mem, Cal
         Err(ReadEnd::Fault) => return Err(CallEnd::BadFile),
         Err(ReadEnd::NoMemory) => return Err(CallEnd::OutOfMemory),
     };
-    match memory_with(alloc, &bytes) {
+    match memory_with(alloc, shape, &bytes) {
         Ok(memory) => Ok(memory),
         Err(LoadFault::Refused(fault)) => Err(CallEnd::BadImage(fault)),
         Err(LoadFault::NoMemory) => Err(CallEnd::OutOfMemory),
@@ -63,21 +65,21 @@ enum LoadFault {
     NoMemory,
 }
 
-/// The memory of a run as it starts, with these bytes as its image.
-fn memory_with(alloc: Global, image: &[u8]) -> Result<Mem, LoadFault>
-    ensures loaded { IfOk result (λ m. m ≡ memory_of image.now) }
-    ensures fits { IfOk result (λ m. length image.now ≤ 65536) }
-    ensures refused { (fault : ImageFault) → result ≡ Err (LoadFault.Refused fault) → image_fault image.now ≡ Some fault }
+/// The memory of a run as it starts, of this shape and with these bytes as its image.
+fn memory_with(alloc: Global, shape: MemShape, image: &[u8]) -> Result<Mem, LoadFault>
+    requires shape { IsMemory shape }
+    ensures loaded { IfOk result (λ m. m ≡ memory_of shape image.now) }
+    ensures fits { IfOk result (λ m. length image.now ≤ shape.size) }
+    ensures refused { (fault : ImageFault) → result ≡ Err (LoadFault.Refused fault) → image_fault shape image.now ≡ Some fault }
 {
-    let mut memory = match Mem::new(alloc, MEMORY_BASE, MEMORY_SIZE) {
+    let mut memory = match Mem::new(alloc, shape.base, shape.size) {
         Ok(memory) => memory,
         Err(_) => return Err(LoadFault::NoMemory),
     };
     match load_raw(image, &mut memory) {
         Ok(()) => Ok(memory),
         Err(ImageRefusal::TooLong { .. }) => Err(LoadFault::Refused(ImageFault::TooLong)),
-        Err(ImageRefusal::Outside { .. }) => {
-            let addr = MEMORY_BASE + MEMORY_SIZE;
+        Err(ImageRefusal::Outside { addr }) => {
             Err(LoadFault::Refused(ImageFault::Outside { addr }))
         }
         Err(_) => unreachable!(),

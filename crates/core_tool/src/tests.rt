@@ -18,6 +18,13 @@ R pc=80000008 word=002081b3 x3=00000011
 T pc=8000000c word=00000000 cause=00000002
 ";
 
+/// The lines of a run of that image in a memory from 00001000 on.
+const LOW_LINES: &str = "R pc=00001000 word=00500093 x1=00000005
+R pc=00001004 word=00708113 x2=0000000c
+R pc=00001008 word=002081b3 x3=00000011
+T pc=0000100c word=00000000 cause=00000002
+";
+
 /// A file of that name.
 fn file(alloc: Global, name: &str, bytes: &[u8]) -> Result<MemFile, AllocError> {
     Ok(MemFile {
@@ -32,11 +39,22 @@ fn host(alloc: Global, text: &[u8], fails: &[u32], bite: u32) -> Result<MemHost,
     MemHost::new(alloc, files, Vec::from_slice(alloc, fails)?, bite, ROOM)
 }
 
-/// A host that holds a configuration as the file `c` and this image as the file `i`.
-fn run_host(alloc: Global, image: &[u8], fails: &[u32], bite: u32) -> Result<MemHost, AllocError> {
-    let config = file(alloc, "c", b"reset_pc = 0x80000000")?;
+/// A host that holds this text as the file `c` and this image as the file `i`.
+fn host_of_two(
+    alloc: Global,
+    text: &str,
+    image: &[u8],
+    fails: &[u32],
+    bite: u32,
+) -> Result<MemHost, AllocError> {
+    let config = file(alloc, "c", text.as_bytes())?;
     let files = vec![in alloc; config, file(alloc, "i", image)?]?;
     MemHost::new(alloc, files, Vec::from_slice(alloc, fails)?, bite, ROOM)
+}
+
+/// A host that holds a configuration as the file `c` and this image as the file `i`.
+fn run_host(alloc: Global, image: &[u8], fails: &[u32], bite: u32) -> Result<MemHost, AllocError> {
+    host_of_two(alloc, "reset_pc = 0x80000000", image, fails, bite)
 }
 
 /// Words in a row, with a space between any two.
@@ -73,7 +91,29 @@ fn refuses_configurations(rt: HostRuntime) -> Result<(), Fail> {
             "reset_pc = \"x\"",
             "config shape key=reset_pc want=integer\n",
         ),
-        ("stages = 4", "config shape key=stages want=nokey\n"),
+        ("stages = 5", "config range key=stages\n"),
+        ("isa = 32", "config shape key=isa want=text\n"),
+        ("isa = \"rv64i\"", "config range key=isa\n"),
+        ("memory = 4096", "config shape key=memory want=table\n"),
+        ("memory = { base = 2 }", "config range key=memory.base\n"),
+        (
+            "memory = { top = 4 }",
+            "config shape key=memory.top want=nokey\n",
+        ),
+        ("plugin = 1", "config shape key=plugin want=tables\n"),
+        (
+            "[[plugin]]\nkind = \"alu\"",
+            "config shape key=plugin want=nokey\n",
+        ),
+        (
+            "[[plugin]]\nkind = \"ALU\"",
+            "config range key=plugin.0.kind\n",
+        ),
+        (
+            "plugin = [{ kind = \"a\" }, { kind = \"a\" }, { kind = \"a\" }, { kind = \"a\", depth = [] }]",
+            "config shape key=plugin.3.depth want=scalar\n",
+        ),
+        ("core = 4", "config shape key=core want=nokey\n"),
         ("b = 1\na = 1", "config shape key=a want=nokey\n"),
         ("\"\" = 1", "config shape key= want=nokey\n"),
         ("\"a\\nb\" = 1", "config shape key=a\nb want=nokey\n"),
@@ -311,6 +351,44 @@ fn refuses_a_long_image(rt: HostRuntime) -> Result<(), Fail> {
             b"image outside addr=80010000\n".as_slice()
         );
         assert!(rt; host.pushed(Port::Main).is_empty());
+    }
+    Ok(())
+}
+
+#[test]
+fn runs_in_the_memory_of_the_configuration(rt: HostRuntime) -> Result<(), Fail> {
+    let alloc = rt.alloc();
+    let text = "reset_pc = 4096\nstages = 2\nmemory = { base = 4096, size = 16 }";
+    let mut host = host_of_two(alloc, text, &IMAGE, &[], 0)?;
+    let status = core_main(alloc, &words(alloc, "run c i --trace")?, &mut host);
+    assert_eq!(rt; status, Status::Stopped);
+    assert_eq!(rt; host.pushed(Port::Main).as_slice(), LOW_LINES.as_bytes());
+    Ok(())
+}
+
+#[test]
+fn refuses_images_behind_memory(rt: HostRuntime) -> Result<(), Fail> {
+    let alloc = rt.alloc();
+    let image = [0u8; 9];
+    for (text, line) in [
+        (
+            "memory = { base = 4096, size = 8 }",
+            "image outside addr=00001008\n",
+        ),
+        (
+            "memory = { base = 4294967288, size = 8 }",
+            "image outside addr=100000000\n",
+        ),
+    ] {
+        let mut host = host_of_two(alloc, text, &image, &[], 0)?;
+        let status = core_main(alloc, &words(alloc, "run c i")?, &mut host);
+        assert_eq!(rt; status, Status::ImageRefused, "{text}");
+        assert_eq!(rt;
+            host.pushed(Port::Notes).as_slice(),
+            line.as_bytes(),
+            "{text}"
+        );
+        assert!(rt; host.pushed(Port::Main).is_empty(), "{text}");
     }
     Ok(())
 }

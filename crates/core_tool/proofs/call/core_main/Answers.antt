@@ -4,7 +4,7 @@ use Rattle.core_host.specs.Outside.{Appends, IsCut}
 use Rattle.core_tool.specs.Words.{form_of, words_of}
 use Rattle.core_tool.specs.Lines.{line_of}
 use Rattle.core_tool.proofs.Calls.{Rose-earlier}
-use Rattle.core_tool.proofs.Statuses.{cut_clause, cycles_clause, end_later, has_line, image_clause, missing_clause, pulled_later, run_clause, stopped_clause}
+use Rattle.core_tool.proofs.Statuses.{cut_clause, cycles_clause, end_later, has_line, image_clause, missing_clause, pulled_later, refused_clause, run_clause, stopped_clause}
 use Rattle.core_tool.proofs.call.core_main.Goals as goal
 
 pub returns-in-Ok-clause-ends : goal.returns-in-Ok-clause-ends
@@ -40,6 +40,18 @@ returns-in-Ok-clause-image_missing g c =
     (g.H.Host.pushed c.args.host.now Main) (g.H.Host.pushed c.work-end.new.host Main) (g.H.Host.pushed c.push_line.new.host Main) end
     c.push_line.ensures.reads c.push_line.ensures.writes (c.push_line.ensures.others Main (λ e. cc)) c.work-end.ensures.ends in
     missing_clause form files _ _ _ _ _ _ end c.status.result done c.status.ensures
+
+pub returns-in-Ok-clause-refused_only : goal.returns-in-Ok-clause-refused_only
+returns-in-Ok-clause-refused_only g c =
+    let form = form_of (words_of c.args.words.now) in
+    let files = g.H.Host.files c.args.host.now in
+    let end = c.work-end.result in
+    let done = end_later form files (g.H.Host.read_faults c.args.host.now) (g.H.Host.read_faults c.work-end.new.host) (g.H.Host.read_faults c.push_line.new.host)
+    (g.H.Host.write_faults c.args.host.now) (g.H.Host.write_faults c.work-end.new.host) (g.H.Host.write_faults c.push_line.new.host)
+    (g.H.Host.pushed c.args.host.now Main) (g.H.Host.pushed c.work-end.new.host Main) (g.H.Host.pushed c.push_line.new.host Main) end
+    c.push_line.ensures.reads c.push_line.ensures.writes (c.push_line.ensures.others Main (λ e. cc)) c.work-end.ensures.ends in
+    let line = subst (λ p. Appends p (line_of end) (g.H.Host.pushed c.push_line.new.host Notes)) c.work-end.ensures.notes c.in-Ok.ensures.whole in
+    refused_clause form files _ _ _ _ _ _ _ _ end c.status.result done c.status.ensures line
 
 pub returns-in-Ok-clause-cycles_only : goal.returns-in-Ok-clause-cycles_only
 returns-in-Ok-clause-cycles_only g c =

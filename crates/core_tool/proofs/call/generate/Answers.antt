@@ -13,7 +13,7 @@ returns-in-Ok-push_core-clause-pulled g c =
     pulled_config (Some (Gen c.args.name.now)) c.args.name.now (g.H.Host.files c.args.host.now) (g.H.Host.left c.args.host.now) (g.H.Host.left c.configure.new.host)
     (g.H.Host.left c.push_core.new.host) _ _ _ refl c.push_core.ensures.left c.push_core.ensures.reads c.configure.ensures.pulled
 
-pub returns-in-Err-push_core-clause-pulled : goal.returns-in-Err-push_core-clause-pulled
-returns-in-Err-push_core-clause-pulled g c =
+pub returns-clause-pulled : goal.returns-clause-pulled
+returns-clause-pulled g c =
     pulled_config (Some (Gen c.args.name.now)) c.args.name.now (g.H.Host.files c.args.host.now) (g.H.Host.left c.args.host.now) (g.H.Host.left c.configure.new.host)
     (g.H.Host.left c.push_core.new.host) _ _ _ refl c.push_core.ensures.left c.push_core.ensures.reads c.configure.ensures.pulled
