@@ -3,6 +3,7 @@
 
 use core_host::RealHost;
 use core_tool::{Status, core_main};
+use plug_api::Plugin;
 use std::alloc::Global;
 use std::env::{self, Env};
 use std::io::{self, ErrorKind};
@@ -13,7 +14,9 @@ fn main(rt: HostRuntime) -> ExitCode {
     let status = match words(alloc, &rt) {
         Ok(words) => {
             let mut host = RealHost::new(alloc, rt, rt.stdout(), rt.stderr());
-            core_main(alloc, &words, &mut host)
+            // There is no plug-in yet.
+            let mut plugs: Vec<Box<dyn Plugin>> = Vec::new(alloc);
+            core_main(alloc, &words, &mut plugs, &mut host)
         }
         Err(error) if error.kind() == ErrorKind::OutOfMemory => Status::NoMemory,
         Err(_error) => Status::ReadFault,

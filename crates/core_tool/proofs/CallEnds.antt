@@ -14,11 +14,12 @@ use Rattle.core_sim.specs.Joint.{run_of}
 use Rattle.core_sim.specs.Ends.{end_of, run_text}
 use Rattle.core_sim.specs.Over.{IsOverBuses}
 use Rattle.core_tool.specs.declared.ends.CallEnd.{CallEnd}
-use Rattle.core_tool.specs.declared.ends.CallEnd.TheVariants.{Written, BadWords, Refused, BadFile, BadImage, OutOfMemory, Unwritten, CyclesEnded, Stopped}
+use Rattle.core_tool.specs.declared.ends.CallEnd.TheVariants.{Written, Accepted, BadWords, Refused, RulesRefused, BadFile, BadImage, OutOfMemory, Unwritten, CyclesEnded, Stopped}
 use Rattle.core_tool.specs.declared.options.Options.{Options}
-use Rattle.core_tool.specs.Fixed.{fixed_config_of}
+use Rattle.core_tool.specs.Reading.{said_for, takes_of}
+use Rattle.core_tool.specs.Acceptance.{Acceptance}
 use Rattle.core_tool.specs.Words.{Form, Run}
-use Rattle.core_tool.specs.Files.{Gives, IsAccepted, Pulled, PulledUnlessFault, config_name, image_name}
+use Rattle.core_tool.specs.Files.{Gives, IsGiven, Pulled, PulledUnlessFault, config_name, image_name}
 use Rattle.core_tool.specs.CoreRun.{IsCoreTree}
 use Rattle.core_tool.specs.Parts.{ForBytes, IsConfigEnd, IsImageEnd, IsLoaded, IsSimulated, PulledOne}
 use Rattle.core_tool.specs.Call.{IsEnd, IsRunText}
@@ -26,69 +27,73 @@ use Rattle.core_tool.proofs.Calls.{Rose-earlier, PulledUnlessFault-later}
 use Rattle.core_tool.proofs.Runs.{core_run}
 
 pub gives : (form : Option Form) (name : List ℕ) (files : Option Files) (c : Config) → config_name form ≡ Some name → IsConfig c
-    → ForBytes name files (λ bytes. fixed_config_of bytes ≡ Ok c) → Gives form files c
+    → ForBytes name files (λ bytes. said_for form bytes ≡ Ok c) → Gives form files c
 gives form name files c named is h = (is, record { name = name; is_name = named; bytes = h.0; file = h.1; fact = h.2 })
 
 -- ---- the ends
 
-pub config_ends : (form : Option Form) (name : List ℕ) (files : Option Files) (reads reads' writes writes' : ℕ) (main main' : Option (List ℕ)) (end : CallEnd)
-    → config_name form ≡ Some name → main' ≡ main → IsConfigEnd name files reads reads' end → IsEnd form files reads reads' writes writes' main main' end
-config_ends form name files reads reads' writes writes' main main' (Refused refusal) named same h = record {
+pub config_ends : (rules : Acceptance) (form : Option Form) (name : List ℕ) (files : Option Files) (reads reads' writes writes' : ℕ) (main main' : Option (List ℕ)) (end : CallEnd)
+    → config_name form ≡ Some name → main' ≡ main → IsConfigEnd (takes_of form) name files reads reads' end → IsEnd rules form files reads reads' writes writes' main main' end
+config_ends rules form name files reads reads' writes writes' main main' (Refused refusal) named same h = record {
   text = [];
   cause = record { name = name; is_name = named; bytes = h.0; file = h.1; fact = h.2 };
   on_main = same;
   unwritten = λ e. cc;
 }
-config_ends form name files reads reads' writes writes' main main' BadFile named same (inl rose) = record {
+config_ends rules form name files reads reads' writes writes' main main' BadFile named same (inl rose) = record {
   text = [];
   cause = (name, named, inl rose);
   on_main = same;
   unwritten = λ e. cc;
 }
-config_ends form name files reads reads' writes writes' main main' BadFile named same (inr missing) = record {
+config_ends rules form name files reads reads' writes writes' main main' BadFile named same (inr missing) = record {
   text = [];
   cause = (name, named, inr (inl (name, named, missing)));
   on_main = same;
   unwritten = λ e. cc;
 }
-config_ends form name files reads reads' writes writes' main main' OutOfMemory named same h =
+config_ends rules form name files reads reads' writes writes' main main' OutOfMemory named same h =
     record { text = []; cause = tt; on_main = same; unwritten = λ e. cc }
-config_ends form name files reads reads' writes writes' main main' Written named same h = absurd h
-config_ends form name files reads reads' writes writes' main main' BadWords named same h = absurd h
-config_ends form name files reads reads' writes writes' main main' (BadImage fault) named same h = absurd h
-config_ends form name files reads reads' writes writes' main main' Unwritten named same h = absurd h
-config_ends form name files reads reads' writes writes' main main' (CyclesEnded events cycles) named same h = absurd h
-config_ends form name files reads reads' writes writes' main main' (Stopped cause pc events cycles) named same h = absurd h
+config_ends rules form name files reads reads' writes writes' main main' Written named same h = absurd h
+config_ends rules form name files reads reads' writes writes' main main' Accepted named same h = absurd h
+config_ends rules form name files reads reads' writes writes' main main' BadWords named same h = absurd h
+config_ends rules form name files reads reads' writes writes' main main' (RulesRefused refusal) named same h = absurd h
+config_ends rules form name files reads reads' writes writes' main main' (BadImage fault) named same h = absurd h
+config_ends rules form name files reads reads' writes writes' main main' Unwritten named same h = absurd h
+config_ends rules form name files reads reads' writes writes' main main' (CyclesEnded events cycles) named same h = absurd h
+config_ends rules form name files reads reads' writes writes' main main' (Stopped cause pc events cycles) named same h = absurd h
 
-pub image_ends : (form : Option Form) (config name : List ℕ) (files : Option Files) (c : Config) (reads reads' writes writes' : ℕ) (main main' : Option (List ℕ))
+pub image_ends : (rules : Acceptance) (form : Option Form) (config name : List ℕ) (files : Option Files) (c : Config) (reads reads' writes writes' : ℕ) (main main' : Option (List ℕ))
     (end : CallEnd) → config_name form ≡ Some config → image_name form ≡ Some name → Gives form files c → main' ≡ main
-    → IsImageEnd name files c.mem reads reads' end → IsEnd form files reads reads' writes writes' main main' end
-image_ends form config name files c reads reads' writes writes' main main' (BadImage fault) first named given same h = record {
+    → IsImageEnd name files c.mem reads reads' end → IsEnd rules form files reads reads' writes writes' main main' end
+image_ends rules form config name files c reads reads' writes writes' main main' (BadImage fault) first named given same h = record {
   text = [];
   cause = record { config = c; gives = given; refused = record { name = name; is_name = named; bytes = h.0; file = h.1; fact = h.2 } };
   on_main = same;
   unwritten = λ e. cc;
 }
-image_ends form config name files c reads reads' writes writes' main main' BadFile first named given same (inl rose) = record {
+image_ends rules form config name files c reads reads' writes writes' main main' BadFile first named given same (inl rose) = record {
   text = [];
   cause = (config, first, inl rose);
   on_main = same;
   unwritten = λ e. cc;
 }
-image_ends form config name files c reads reads' writes writes' main main' BadFile first named given same (inr missing) = record {
+image_ends rules form config name files c reads reads' writes writes' main main' BadFile first named given same (inr missing) = record {
   text = [];
   cause = (config, first, inr (inr ((c, given), (name, named, missing))));
   on_main = same;
   unwritten = λ e. cc;
 }
-image_ends form config name files c reads reads' writes writes' main main' OutOfMemory first named given same h =
+image_ends rules form config name files c reads reads' writes writes' main main' OutOfMemory first named given same h =
     record { text = []; cause = tt; on_main = same; unwritten = λ e. cc }
-image_ends form config name files c reads reads' writes writes' main main' Written first named given same h = absurd h
-image_ends form config name files c reads reads' writes writes' main main' BadWords first named given same h = absurd h
-image_ends form config name files c reads reads' writes writes' main main' (Refused refusal) first named given same h = absurd h
-image_ends form config name files c reads reads' writes writes' main main' Unwritten first named given same h = absurd h
-image_ends form config name files c reads reads' writes writes' main main' (CyclesEnded events cycles) first named given same h = absurd h
-image_ends form config name files c reads reads' writes writes' main main' (Stopped cause pc events cycles) first named given same h = absurd h
+image_ends rules form config name files c reads reads' writes writes' main main' Written first named given same h = absurd h
+image_ends rules form config name files c reads reads' writes writes' main main' Accepted first named given same h = absurd h
+image_ends rules form config name files c reads reads' writes writes' main main' BadWords first named given same h = absurd h
+image_ends rules form config name files c reads reads' writes writes' main main' (RulesRefused refusal) first named given same h = absurd h
+image_ends rules form config name files c reads reads' writes writes' main main' (Refused refusal) first named given same h = absurd h
+image_ends rules form config name files c reads reads' writes writes' main main' Unwritten first named given same h = absurd h
+image_ends rules form config name files c reads reads' writes writes' main main' (CyclesEnded events cycles) first named given same h = absurd h
+image_ends rules form config name files c reads reads' writes writes' main main' (Stopped cause pc events cycles) first named given same h = absurd h
 
 pub image_end_earlier : (name : List ℕ) (mem : MemShape) (files files' : Option Files) (before mid now : ℕ) (end : CallEnd) → files' ≡ files → before ≤ mid
     → IsImageEnd name files' mem mid now end → IsImageEnd name files mem before now end
@@ -97,7 +102,9 @@ image_end_earlier name mem files files' before mid now BadFile same less (inl ro
 image_end_earlier name mem files files' before mid now BadFile same less (inr missing) = inr (subst (λ f. IsMissing name f) same missing)
 image_end_earlier name mem files files' before mid now OutOfMemory same less h = tt
 image_end_earlier name mem files files' before mid now Written same less h = h
+image_end_earlier name mem files files' before mid now Accepted same less h = h
 image_end_earlier name mem files files' before mid now BadWords same less h = h
+image_end_earlier name mem files files' before mid now (RulesRefused refusal) same less h = h
 image_end_earlier name mem files files' before mid now (Refused refusal) same less h = h
 image_end_earlier name mem files files' before mid now Unwritten same less h = h
 image_end_earlier name mem files files' before mid now (CyclesEnded events cycles) same less h = h
@@ -130,36 +137,38 @@ run_text_of name image options files config t m ended set ends over = record {
   run = core_run config set.loaded.image options t m ended set.core set.loaded.loaded set.is_memory ends over;
 }
 
-pub run_ends : (name image : List ℕ) (options : Options) (files : Option Files) (config : Config) (t : Tree) (m : Memory)
+pub run_ends : (rules : Acceptance) (name image : List ℕ) (options : Options) (files : Option Files) (config : Config) (t : Tree) (m : Memory)
     (reads reads' writes mid writes' : ℕ) (main before main' : Option (List ℕ)) (end : CallEnd)
     → IsSetUp name image options files config t m → before ≡ main → writes ≤ mid
     → IsSimulated (plain_tree t) m options before main' mid writes' end
-    → IsEnd (Some (Run name image options)) files reads reads' writes writes' main main' end
-run_ends name image options files config t m reads reads' writes mid writes' main before main' (CyclesEnded events cycles) set same less h = record {
+    → IsEnd rules (Some (Run name image options)) files reads reads' writes writes' main main' end
+run_ends rules name image options files config t m reads reads' writes mid writes' main before main' (CyclesEnded events cycles) set same less h = record {
   text = set_text options t m;
   cause = run_text_of name image options files config t m (run_end.CyclesEnded events cycles) set h.ends h.over;
   on_main = subst (λ p. Appends p (set_text options t m) main') same h.text;
   unwritten = λ e. cc;
 }
-run_ends name image options files config t m reads reads' writes mid writes' main before main' (Stopped cause pc events cycles) set same less h = record {
+run_ends rules name image options files config t m reads reads' writes mid writes' main before main' (Stopped cause pc events cycles) set same less h = record {
   text = set_text options t m;
   cause = run_text_of name image options files config t m (run_end.Stopped cause pc events cycles) set h.ends h.over;
   on_main = subst (λ p. Appends p (set_text options t m) main') same h.text;
   unwritten = λ e. cc;
 }
-run_ends name image options files config t m reads reads' writes mid writes' main before main' Unwritten set same less h = record {
+run_ends rules name image options files config t m reads reads' writes mid writes' main before main' Unwritten set same less h = record {
   text = set_text options t m;
   cause = inr (end_of (run_of (plain_tree t) m (options.wait ∷ [])) options.cycles, run_text_of name image options files config t m _ set refl h.over);
   on_main = subst (λ p. IsCut p (set_text options t m) main') same h.text;
   unwritten = λ e. Rose-earlier writes mid writes' less h.rose;
 }
-run_ends name image options files config t m reads reads' writes mid writes' main before main' OutOfMemory set same less h =
+run_ends rules name image options files config t m reads reads' writes mid writes' main before main' OutOfMemory set same less h =
     record { text = []; cause = tt; on_main = h ∙ same; unwritten = λ e. cc }
-run_ends name image options files config t m reads reads' writes mid writes' main before main' Written set same less h = absurd h
-run_ends name image options files config t m reads reads' writes mid writes' main before main' BadWords set same less h = absurd h
-run_ends name image options files config t m reads reads' writes mid writes' main before main' (Refused refusal) set same less h = absurd h
-run_ends name image options files config t m reads reads' writes mid writes' main before main' BadFile set same less h = absurd h
-run_ends name image options files config t m reads reads' writes mid writes' main before main' (BadImage fault) set same less h = absurd h
+run_ends rules name image options files config t m reads reads' writes mid writes' main before main' Written set same less h = absurd h
+run_ends rules name image options files config t m reads reads' writes mid writes' main before main' Accepted set same less h = absurd h
+run_ends rules name image options files config t m reads reads' writes mid writes' main before main' BadWords set same less h = absurd h
+run_ends rules name image options files config t m reads reads' writes mid writes' main before main' (RulesRefused refusal) set same less h = absurd h
+run_ends rules name image options files config t m reads reads' writes mid writes' main before main' (Refused refusal) set same less h = absurd h
+run_ends rules name image options files config t m reads reads' writes mid writes' main before main' BadFile set same less h = absurd h
+run_ends rules name image options files config t m reads reads' writes mid writes' main before main' (BadImage fault) set same less h = absurd h
 
 -- ---- what was pulled
 
@@ -187,7 +196,7 @@ earlier most name files left before mid now less (inl rose) = inl (Rose-earlier 
 earlier most name files left before mid now less (inr few) = inr few
 
 pub pulled_both : (form : Option Form) (config image : List ℕ) (files : Option Files) (old mid new : ℕ → List ℕ) (before between now : ℕ)
-    → config_name form ≡ Some config → image_name form ≡ Some image → IsAccepted form files → before ≤ between → between ≤ now
+    → config_name form ≡ Some config → image_name form ≡ Some image → IsGiven form files → before ≤ between → between ≤ now
     → PulledOne 1048577 config files old mid before between → PulledOne 67108865 image files mid new between now → Pulled form files old new before now
 pulled_both form config image files old mid new before between now first second accepted less more one (inl none) =
     pulled_config form config files old mid new before between now first none more one
@@ -198,7 +207,7 @@ pulled_both form config image files old mid new before between now first second 
   m = m;
   is_config = first;
   is_image = second;
-  accepted = accepted;
+  given = accepted;
   others = λ k other other'. others k other' ∙ none k;
   few = inl refl;
   few_of_image = earlier 67108865 image files (new m) before between now less few;
@@ -210,7 +219,7 @@ pulled_both form config image files old mid new before between now first second 
   m = m;
   is_config = first;
   is_image = second;
-  accepted = accepted;
+  given = accepted;
   others = λ k other other'. others' k other' ∙ others k other;
   few = elim (same_or_not n m) [
     | inl same ↦ inl same

@@ -12,7 +12,9 @@ use Rattle.stage_map.specs.declared.config.PlugEntry.{PlugEntry}
 use Rattle.core_config.specs.Config.{IsAnswer, config_of, of_text, then_read}
 use Rattle.core_tool.specs.declared.ends.ImageFault.{ImageFault}
 use Rattle.core_tool.specs.declared.ends.ImageFault.TheVariants.{TooLong, Outside}
-use Rattle.core_tool.specs.Fixed.{fixed_config_of, fixed_of, unless_entries}
+use Rattle.core_tool.specs.Reading.{fixed_config_of, fixed_of, said_to, unless_entries}
+use Rattle.core_tool.specs.declared.reading.Takes.{Takes}
+use Rattle.core_tool.specs.declared.reading.Takes.TheVariants.{NoEntry, All}
 use Rattle.core_tool.specs.Lines.{refusal_line}
 use Rattle.core_tool.specs.Files.{IsFile, IsRefusedWith, PulledUnlessFault, image_fault}
 use Rattle.core_tool.specs.Parts.{ForBytes}
@@ -58,6 +60,14 @@ fixed_config_of-long : (bytes : List ℕ) → 1048576 < length bytes → fixed_c
 unfolding fixed_config_of config_of
 fixed_config_of-long bytes long = rw (lt-ltb _ _ long)
 
+config_of-long : (bytes : List ℕ) → 1048576 < length bytes → config_of bytes ≡ Err (TooLongConfig (length bytes))
+unfolding config_of
+config_of-long bytes long = rw (lt-ltb _ _ long)
+
+said_to-long : (takes : Takes) (bytes : List ℕ) → 1048576 < length bytes → said_to takes bytes ≡ Err (TooLongConfig (length bytes))
+said_to-long NoEntry bytes long = fixed_config_of-long bytes long
+said_to-long All bytes long = config_of-long bytes long
+
 -- what was read up to one byte past the limit is the file, or both are too long
 whole_file : (name : List ℕ) (files : Option Files) (read : List ℕ) → IsRead 1048576 name files read
     → (bytes : List ℕ) × IsFile name files bytes × ((bytes ≡ read) ⊎ ((1048576 < length read) × (1048576 < length bytes)))
@@ -69,27 +79,27 @@ whole_file name (Some files) read (rest, held, ends) =
       | inr short ↦ (read ++ rest, held, inl (ap (λ l. read ++ l) (ends short) ∙ append-nil read))
     ]
 
-pub config_given : (name : List ℕ) (files : Option Files) (read : List ℕ) (c : Config) → IsRead 1048576 name files read → IsAnswer (Ok c) (fixed_config_of read)
-    → ForBytes name files (λ bytes. fixed_config_of bytes ≡ Ok c)
-config_given name files read c h answer =
+pub config_given : (takes : Takes) (name : List ℕ) (files : Option Files) (read : List ℕ) (c : Config) → IsRead 1048576 name files read
+    → IsAnswer (Ok c) (said_to takes read) → ForBytes name files (λ bytes. said_to takes bytes ≡ Ok c)
+config_given takes name files read c h answer =
     let w = whole_file name files read h in
-    let e = answer_ok (fixed_config_of read) c answer in
+    let e = answer_ok (said_to takes read) c answer in
     elim w.2 [
-      | inl same ↦ (w.0, w.1, ap fixed_config_of same ∙ e)
-      | inr long ↦ let other = fixed_config_of-long read long.0 in cc
+      | inl same ↦ (w.0, w.1, ap (said_to takes) same ∙ e)
+      | inr long ↦ let other = said_to-long takes read long.0 in cc
     ]
 
-pub config_refused : (name : List ℕ) (files : Option Files) (read : List ℕ) (refusal : ConfigRefusal) → IsRead 1048576 name files read
-    → (refusal ≡ NoMemory → ⊥) → IsAnswer (Err refusal) (fixed_config_of read) → ForBytes name files (IsRefusedWith refusal)
-config_refused name files read refusal h other answer =
+pub config_refused : (takes : Takes) (name : List ℕ) (files : Option Files) (read : List ℕ) (refusal : ConfigRefusal) → IsRead 1048576 name files read
+    → (refusal ≡ NoMemory → ⊥) → IsAnswer (Err refusal) (said_to takes read) → ForBytes name files (IsRefusedWith takes refusal)
+config_refused takes name files read refusal h other answer =
     let w = whole_file name files read h in
-    let e = answer_refused (fixed_config_of read) refusal other answer in
+    let e = answer_refused (said_to takes read) refusal other answer in
     elim w.2 [
-      | inl same ↦ (w.0, w.1, (refusal, ap fixed_config_of same ∙ e, refl))
+      | inl same ↦ (w.0, w.1, (refusal, ap (said_to takes) same ∙ e, refl))
       | inr long ↦
-          let both : Err (TooLongConfig (length read)) ≡ Err refusal = sym (fixed_config_of-long read long.0) ∙ e in
+          let both : Err (TooLongConfig (length read)) ≡ Err refusal = sym (said_to-long takes read long.0) ∙ e in
           let is : TooLongConfig (length read) ≡ refusal = cc in
-          (w.0, w.1, (TooLongConfig (length w.0), fixed_config_of-long w.0 long.1, ap refusal_line is))
+          (w.0, w.1, (TooLongConfig (length w.0), said_to-long takes w.0 long.1, ap refusal_line is))
     ]
 
 -- ---- the image

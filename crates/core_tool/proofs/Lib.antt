@@ -4,3 +4,4 @@ pub mod Pieces
 pub mod Runs
 pub mod CallEnds
 pub mod Statuses
+pub mod RuleEnds

@@ -7,8 +7,9 @@ use Rattle.core_config.specs.declared.refusal.ConfigRefusal.{ConfigRefusal}
 use Rattle.core_config.specs.Allowed.{IsConfig}
 use Rattle.core_tool.specs.declared.ends.ImageFault.{ImageFault}
 use Rattle.core_tool.specs.declared.ends.ImageFault.TheVariants.{TooLong, Outside}
-use Rattle.core_tool.specs.Fixed.{fixed_config_of}
-use Rattle.core_tool.specs.Words.{Form, Gen, Run}
+use Rattle.core_tool.specs.Reading.{said_for, said_to}
+use Rattle.core_tool.specs.declared.reading.Takes.{Takes}
+use Rattle.core_tool.specs.Words.{Form, Gen, Run, Rules}
 use Rattle.core_tool.specs.Lines.{refusal_line}
 
 -- ---- names
@@ -18,11 +19,13 @@ abbrev pub config_name : Option Form → Option (List ℕ)
 config_name None = None
 config_name (Some (Gen name)) = Some name
 config_name (Some (Run config image options)) = Some config
+config_name (Some (Rules name)) = Some name
 
 abbrev pub image_name : Option Form → Option (List ℕ)
 image_name None = None
 image_name (Some (Gen name)) = None
 image_name (Some (Run config image options)) = Some image
+image_name (Some (Rules name)) = None
 
 -- where the files are told, the file of that name has these bytes
 abbrev pub IsFile : (name : List ℕ) → Option Files → List ℕ → Type 0
@@ -57,19 +60,19 @@ Misses form files = MissesFile (config_name form) files
 
 -- the words name a file whose bytes say this configuration, which there may be
 abbrev pub Gives : Option Form → Option Files → Config → Type 0
-Gives form files config = IsConfig config × ForFile (config_name form) files (λ bytes. fixed_config_of bytes ≡ Ok config)
+Gives form files config = IsConfig config × ForFile (config_name form) files (λ bytes. said_for form bytes ≡ Ok config)
 
--- the words name a configuration that is accepted
-abbrev pub IsAccepted : Option Form → Option Files → Type 0
-IsAccepted form files = (config : Config) × Gives form files config
+-- the words name a configuration that is read
+abbrev pub IsGiven : Option Form → Option Files → Type 0
+IsGiven form files = (config : Config) × Gives form files config
 
 -- the words name a configuration that is refused so
 abbrev pub IsRefusedAs : Option Form → Option Files → ConfigRefusal → Type 0
-IsRefusedAs form files refusal = ForFile (config_name form) files (λ bytes. fixed_config_of bytes ≡ Err refusal)
+IsRefusedAs form files refusal = ForFile (config_name form) files (λ bytes. said_for form bytes ≡ Err refusal)
 
 -- bytes are refused with the line of this refusal; how many too long ones are is not told
-abbrev pub IsRefusedWith : ConfigRefusal → List ℕ → Type 0
-IsRefusedWith refusal bytes = (first : ConfigRefusal) × (fixed_config_of bytes ≡ Err first) × (refusal_line first ≡ refusal_line refusal)
+abbrev pub IsRefusedWith : Takes → ConfigRefusal → List ℕ → Type 0
+IsRefusedWith takes refusal bytes = (first : ConfigRefusal) × (said_to takes bytes ≡ Err first) × (refusal_line first ≡ refusal_line refusal)
 
 -- ---- the image
 
@@ -79,14 +82,14 @@ unfoldable pub image_fault : MemShape → List ℕ → Option ImageFault
 image_fault mem bytes = if nat_lt 67108864 (length bytes) then Some TooLong
     else (if nat_lt mem.size (length bytes) then Some (Outside (mem.base + mem.size)) else None)
 
--- the words name an image with these bytes; behind a configuration that is accepted, an image is missing
+-- the words name an image with these bytes; behind a configuration that is read, an image is missing
 abbrev pub HoldsImage : Option Form → Option Files → (bytes : List ℕ) → Type 0
 HoldsImage form files bytes = HoldsFile (image_name form) files bytes
 
 abbrev pub MissesImage : Option Form → Option Files → Type 0
-MissesImage form files = IsAccepted form files × MissesFile (image_name form) files
+MissesImage form files = IsGiven form files × MissesFile (image_name form) files
 
--- the configuration is accepted, and the image is refused so for its memory
+-- the configuration is read, and the image is refused so for its memory
 pub record IsImageRefusedAs (form : Option Form) (files : Option Files) (fault : ImageFault) : Type 0 where
   pub config : Config
   pub gives : Gives form files config
@@ -114,7 +117,7 @@ pub record PulledConfig (form : Option Form) (files : Option Files) (old new : �
   pub others : SameButOne n old new
   pub few : PulledUnlessFault 1048577 name files (new n) before now
 
--- the configuration, which is accepted, and the image were pulled; they may be one file
+-- the configuration, which is read, and the image were pulled; they may be one file
 pub record PulledBoth (form : Option Form) (files : Option Files) (old new : ℕ → List ℕ) (before now : ℕ) : Type 0 where
   pub config : List ℕ
   pub image : List ℕ
@@ -122,7 +125,7 @@ pub record PulledBoth (form : Option Form) (files : Option Files) (old new : ℕ
   pub m : ℕ
   pub is_config : config_name form ≡ Some config
   pub is_image : image_name form ≡ Some image
-  pub accepted : IsAccepted form files
+  pub given : IsGiven form files
   pub others : SameButTwo n m old new
   pub few : (n ≡ m) ⊎ PulledUnlessFault 1048577 config files (new n) before now
   pub few_of_image : PulledUnlessFault 67108865 image files (new m) before now

@@ -1,7 +1,9 @@
 pub mod Status
 pub mod Options
 pub mod Words
-pub mod Fixed
+pub mod Reading
+pub mod Acceptance
+pub mod RuleLines
 pub mod Lines
 pub mod Files
 pub mod CoreRun

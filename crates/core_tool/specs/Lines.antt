@@ -13,13 +13,16 @@ use Rattle.core_tool.specs.declared.ends.ImageFault.TheVariants as image
 use Rattle.core_tool.specs.declared.lines.Piece.{Piece}
 use Rattle.core_tool.specs.declared.lines.Piece.TheVariants.{Text, Hex, Decimal}
 use Rattle.core_tool.specs.declared.ends.CallEnd.{CallEnd}
-use Rattle.core_tool.specs.declared.ends.CallEnd.TheVariants.{Written, BadWords, Refused, BadFile, BadImage, OutOfMemory, Unwritten, CyclesEnded, Stopped}
+use Rattle.core_tool.specs.declared.ends.CallEnd.TheVariants.{Written, Accepted, BadWords, Refused, RulesRefused, BadFile, BadImage, OutOfMemory, Unwritten, CyclesEnded, Stopped}
+use Rattle.core_tool.specs.RuleLines.{rule_line}
 
 -- the status of a call that ends so, where its line is written
 abbrev pub status_of : CallEnd → Status
 status_of Written = status.Done
+status_of Accepted = status.Done
 status_of BadWords = status.Usage
 status_of (Refused refusal) = status.ConfigRefused
+status_of (RulesRefused refusal) = status.RulesRefused
 status_of BadFile = status.ReadFault
 status_of (BadImage fault) = status.ImageRefused
 status_of OutOfMemory = status.NoMemory
@@ -74,8 +77,10 @@ stopped_line cause pc events cycles = codes "stopped cause=" ++ (hex8 cause ++ (
 -- the line of an end
 abbrev pub line_of : CallEnd → List ℕ
 line_of Written = []
+line_of Accepted = []
 line_of BadWords = codes "usage\n"
 line_of (Refused refusal) = refusal_line refusal
+line_of (RulesRefused refusal) = rule_line refusal
 line_of BadFile = codes "read fault\n"
 line_of (BadImage fault) = image_line fault
 line_of OutOfMemory = codes "no memory\n"

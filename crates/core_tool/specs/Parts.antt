@@ -3,6 +3,7 @@ use Rattle.std.specs.Prelude.{◌≡◌, ◌⊎◌, ◌≤◌, ℕ, List, [], �
 use Rattle.core_host.specs.Outside.{Files, Rose, Appends, IsCut, IsMissing, SameButOne}
 use Rattle.bus_law.specs.Memory.{Memory}
 use Rattle.stage_map.specs.declared.config.MemShape.{MemShape}
+use Rattle.stage_map.specs.declared.config.Config.{Config}
 use Rattle.verilog_mean.specs.Plain.{Plain}
 use Rattle.core_sim.specs.declared.ended.Ended.{Ended}
 use Rattle.core_sim.specs.declared.ended.Ended.TheVariants as run_end
@@ -10,8 +11,10 @@ use Rattle.core_sim.specs.Joint.{run_of}
 use Rattle.core_sim.specs.Ends.{end_of, run_text}
 use Rattle.core_sim.specs.Over.{IsOverBuses}
 use Rattle.core_tool.specs.declared.ends.CallEnd.{CallEnd}
-use Rattle.core_tool.specs.declared.ends.CallEnd.TheVariants.{Refused, BadFile, BadImage, OutOfMemory, Unwritten, CyclesEnded, Stopped}
+use Rattle.core_tool.specs.declared.ends.CallEnd.TheVariants.{Refused, RulesRefused, BadFile, BadImage, OutOfMemory, Unwritten, CyclesEnded, Stopped}
+use Rattle.core_tool.specs.Acceptance.{Acceptance}
 use Rattle.core_tool.specs.declared.options.Options.{Options}
+use Rattle.core_tool.specs.declared.reading.Takes.{Takes}
 use Rattle.core_tool.specs.Files.{IsFile, IsRefusedWith, PulledUnlessFault, image_fault}
 use Rattle.core_tool.specs.CoreRun.{memory_of}
 
@@ -31,11 +34,19 @@ abbrev pub ForBytes : (name : List ℕ) → Option Files → (P : List ℕ → T
 ForBytes name files P = (bytes : List ℕ) × IsFile name files bytes × P bytes
 
 -- the end of a call whose configuration is not read or refused
-abbrev pub IsConfigEnd : (name : List ℕ) → Option Files → (before now : ℕ) → CallEnd → Type 0
-IsConfigEnd name files before now (Refused refusal) = ForBytes name files (IsRefusedWith refusal)
-IsConfigEnd name files before now BadFile = IsUnreadFile name files before now
-IsConfigEnd name files before now OutOfMemory = Unit {0}
-IsConfigEnd name files before now other = ⊥
+abbrev pub IsConfigEnd : Takes → (name : List ℕ) → Option Files → (before now : ℕ) → CallEnd → Type 0
+IsConfigEnd takes name files before now (Refused refusal) = ForBytes name files (IsRefusedWith takes refusal)
+IsConfigEnd takes name files before now BadFile = IsUnreadFile name files before now
+IsConfigEnd takes name files before now OutOfMemory = Unit {0}
+IsConfigEnd takes name files before now other = ⊥
+
+-- ---- the rules
+
+-- the end of a call whose configuration is not accepted
+abbrev pub IsRulesEnd : Acceptance → Config → CallEnd → Type 0
+IsRulesEnd rules config (RulesRefused refusal) = rules.refuses config refusal
+IsRulesEnd rules config OutOfMemory = Unit {0}
+IsRulesEnd rules config other = ⊥
 
 -- ---- the image
 

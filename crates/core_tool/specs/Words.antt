@@ -11,6 +11,7 @@ use Rattle.core_tool.specs.Options.{options_of}
 pub data Form : Type 0 where
   Gen : (name : List ℕ) → Form
   Run : (config image : List ℕ) → Options → Form
+  Rules : (name : List ℕ) → Form
 
 -- a word is the name of a file: it is not empty and does not begin with `-`
 abbrev pub is_name_lem : List ℕ → Bool
@@ -27,11 +28,17 @@ abbrev pub run_of : List (List ℕ) → Option Form
 run_of (config ∷ image ∷ words) = if is_name_lem config && is_name_lem image then option_map (Run config image) (options_of words) else None
 run_of _ = None
 
+-- `rules NAME`, behind the first word
+abbrev pub rules_of : List (List ℕ) → Option Form
+rules_of (name ∷ []) = if is_name_lem name then Some (Rules name) else None
+rules_of _ = None
+
 -- the form of the words, without the program's name
 abbrev pub form_of : List (List ℕ) → Option Form
 form_of [] = None
 form_of (command ∷ words) = if pointwise nat_eq command (codes "gen") then gen_of words
-    else (if pointwise nat_eq command (codes "run") then run_of words else None)
+    else (if pointwise nat_eq command (codes "run") then run_of words
+    else (if pointwise nat_eq command (codes "rules") then rules_of words else None))
 
 -- the bytes of the words
 abbrev pub words_of : Vec (String Global) Global → List (List ℕ)
@@ -41,3 +48,4 @@ words_of words = map string_bytes words.items
 abbrev pub seen : FormValue → Form
 seen (value.Gen name) = Gen name.now
 seen (value.Run config image options) = Run config.now image.now options
+seen (value.Rules name) = Rules name.now

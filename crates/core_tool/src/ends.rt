@@ -6,8 +6,10 @@ ghost use Rattle.core_tool.specs.Lines.{image_line, joined, key_line, line_of, r
 
 use crate::Status;
 use crate::lines::{Piece, push_pieces};
+use crate::rules::rule_pieces;
 use core_config::{ConfigRefusal, KeyPath, Want};
 use core_host::{Host, HostFailed, Port};
+use plug_api::RuleRefusal;
 
 /// The number of addresses.
 const ADDRESSES: u64 = 0x1_0000_0000;
@@ -15,12 +17,16 @@ const ADDRESSES: u64 = 0x1_0000_0000;
 /// How the work of a call ended, before its line is written.
 #[derive(Debug, Drop)]
 pub enum CallEnd {
-    /// The text is written whole.
+    /// The text of a core is written whole.
     Written,
+    /// The configuration is accepted, and the line that says so is written whole.
+    Accepted,
     /// The words are no call.
     BadWords,
     /// The configuration is refused.
     Refused(ConfigRefusal),
+    /// The configuration breaks a rule of acceptance.
+    RulesRefused(RuleRefusal),
     /// The image is refused.
     BadImage(ImageFault),
     /// A file was not found or not read.
@@ -57,9 +63,10 @@ impl CallEnd {
         ensures { result ≡ status_of self.now }
     {
         match self {
-            CallEnd::Written => Status::Done,
+            CallEnd::Written | CallEnd::Accepted => Status::Done,
             CallEnd::BadWords => Status::Usage,
             CallEnd::Refused(_) => Status::ConfigRefused,
+            CallEnd::RulesRefused(_) => Status::RulesRefused,
             CallEnd::BadImage(_) => Status::ImageRefused,
             CallEnd::BadFile => Status::ReadFault,
             CallEnd::OutOfMemory => Status::NoMemory,
@@ -84,9 +91,10 @@ pub fn push_line<H: Host>(host: &mut H, end: &CallEnd) -> Result<(), HostFailed>
     ensures writes { H.write_faults host.old ≤ H.write_faults host.new }
 {
     match end {
-        CallEnd::Written | CallEnd::Unwritten => push_pieces(host, &[]),
+        CallEnd::Written | CallEnd::Accepted | CallEnd::Unwritten => push_pieces(host, &[]),
         CallEnd::BadWords => push_pieces(host, &[Piece::Text("usage\n")]),
         CallEnd::Refused(refusal) => push_pieces(host, &refusal_pieces(refusal)),
+        CallEnd::RulesRefused(refusal) => push_pieces(host, &rule_pieces(refusal)),
         CallEnd::BadFile => push_pieces(host, &[Piece::Text("read fault\n")]),
         CallEnd::BadImage(fault) => push_pieces(host, &image_pieces(*fault)),
         CallEnd::OutOfMemory => push_pieces(host, &[Piece::Text("no memory\n")]),

@@ -3,9 +3,10 @@
 
 mod call;
 mod ends;
-mod fixed;
 mod lines;
 mod options;
+mod reading;
+mod rules;
 mod run;
 mod status;
 mod words;

@@ -25,6 +25,11 @@ R pc=00001008 word=002081b3 x3=00000011
 T pc=0000100c word=00000000 cause=00000002
 ";
 
+/// The status of a call without plug-ins.
+fn status_of(alloc: Global, words: &Vec<String>, host: &mut MemHost) -> Status {
+    core_main(alloc, words, &mut Vec::new(alloc), host)
+}
+
 /// A file of that name.
 fn file(alloc: Global, name: &str, bytes: &[u8]) -> Result<MemFile, AllocError> {
     Ok(MemFile {
@@ -70,7 +75,7 @@ fn words(alloc: Global, text: &str) -> Result<Vec<String>, AllocError> {
 fn writes_a_core(rt: HostRuntime) -> Result<(), Fail> {
     let alloc = rt.alloc();
     let mut host = host(alloc, b"reset_pc = 0x80000000", &[], 0)?;
-    let status = core_main(alloc, &words(alloc, "gen c")?, &mut host);
+    let status = status_of(alloc, &words(alloc, "gen c")?, &mut host);
     assert_eq!(rt; status, Status::Done);
     let text = host.pushed(Port::Main).as_slice();
     assert!(rt; text.starts_with(b"module core(".as_slice()));
@@ -120,7 +125,7 @@ fn refuses_configurations(rt: HostRuntime) -> Result<(), Fail> {
         ("reset_pc =", "config text\n"),
     ] {
         let mut host = host(alloc, text.as_bytes(), &[], 0)?;
-        let status = core_main(alloc, &words(alloc, "gen c")?, &mut host);
+        let status = status_of(alloc, &words(alloc, "gen c")?, &mut host);
         assert_eq!(rt; status, Status::ConfigRefused, "{text}");
         assert_eq!(rt;
             host.pushed(Port::Notes).as_slice(),
@@ -140,7 +145,10 @@ fn refuses_words(rt: HostRuntime) -> Result<(), Fail> {
         "gen ",
         "gen -c",
         "gen c d",
-        "rules c",
+        "rules",
+        "rules -c",
+        "rules c d",
+        "rules c --trace",
         "gen --help",
         "GEN c",
         "-",
@@ -164,7 +172,7 @@ fn refuses_words(rt: HostRuntime) -> Result<(), Fail> {
         "run --trace c i",
     ] {
         let mut host = host(alloc, b"", &[], 0)?;
-        let status = core_main(alloc, &words(alloc, text)?, &mut host);
+        let status = status_of(alloc, &words(alloc, text)?, &mut host);
         assert_eq!(rt; status, Status::Usage, "{text}");
         assert_eq!(rt;
             host.pushed(Port::Notes).as_slice(),
@@ -175,7 +183,7 @@ fn refuses_words(rt: HostRuntime) -> Result<(), Fail> {
     }
     let mut host = host(alloc, b"", &[], 0)?;
     assert_eq!(rt;
-        core_main(alloc, &Vec::new(alloc), &mut host),
+        status_of(alloc, &Vec::new(alloc), &mut host),
         Status::Usage,
         "no words"
     );
@@ -184,10 +192,62 @@ fn refuses_words(rt: HostRuntime) -> Result<(), Fail> {
 }
 
 #[test]
+fn tries_the_rules_without_plug_ins(rt: HostRuntime) -> Result<(), Fail> {
+    let alloc = rt.alloc();
+    for (text, status, line) in [
+        ("", Status::RulesRefused, "rules 4 service=fetch by=-\n"),
+        (
+            "isa = \"rv32im\"",
+            Status::RulesRefused,
+            "rules 4 service=fetch by=-\n",
+        ),
+        (
+            "[[plugin]]\nkind = \"alu\"\ndepth = 1",
+            Status::RulesRefused,
+            "rules 1 entry=0\n",
+        ),
+        (
+            "[[plugin]]\nkind = \"ALU\"",
+            Status::ConfigRefused,
+            "config range key=plugin.0.kind\n",
+        ),
+        (
+            "plugin = 1",
+            Status::ConfigRefused,
+            "config shape key=plugin want=tables\n",
+        ),
+        (
+            "stages = 5",
+            Status::ConfigRefused,
+            "config range key=stages\n",
+        ),
+    ] {
+        let mut host = host(alloc, text.as_bytes(), &[], 0)?;
+        let answer = status_of(alloc, &words(alloc, "rules c")?, &mut host);
+        assert_eq!(rt; answer, status, "{text}");
+        assert_eq!(rt;
+            host.pushed(Port::Notes).as_slice(),
+            line.as_bytes(),
+            "{text}"
+        );
+        assert!(rt; host.pushed(Port::Main).is_empty(), "{text}");
+    }
+    let mut missing = host(alloc, b"", &[], 0)?;
+    let status = status_of(alloc, &words(alloc, "rules d")?, &mut missing);
+    assert_eq!(rt; status, Status::ReadFault);
+    // The file is found and pulled in two calls; the line is pushed piece by piece.
+    let mut cut = host(alloc, b"", &[5], 0)?;
+    let status = status_of(alloc, &words(alloc, "rules c")?, &mut cut);
+    assert_eq!(rt; status, Status::WriteFault);
+    assert!(rt; cut.pushed(Port::Main).is_empty());
+    Ok(())
+}
+
+#[test]
 fn ends_where_a_file_is_missing_or_long(rt: HostRuntime) -> Result<(), Fail> {
     let alloc = rt.alloc();
     let mut missing = host(alloc, b"", &[], 0)?;
-    let status = core_main(alloc, &words(alloc, "gen d")?, &mut missing);
+    let status = status_of(alloc, &words(alloc, "gen d")?, &mut missing);
     assert_eq!(rt; status, Status::ReadFault);
     assert_eq!(rt;
         missing.pushed(Port::Notes).as_slice(),
@@ -197,11 +257,11 @@ fn ends_where_a_file_is_missing_or_long(rt: HostRuntime) -> Result<(), Fail> {
 
     let mut comment = vec![in alloc; b'#'; 1_048_576]?;
     let mut whole = host(alloc, &comment, &[], 0)?;
-    let status = core_main(alloc, &words(alloc, "gen c")?, &mut whole);
+    let status = status_of(alloc, &words(alloc, "gen c")?, &mut whole);
     assert_eq!(rt; status, Status::Done);
     comment.push(b'#')?;
     let mut long = host(alloc, &comment, &[], 0)?;
-    let status = core_main(alloc, &words(alloc, "gen c")?, &mut long);
+    let status = status_of(alloc, &words(alloc, "gen c")?, &mut long);
     assert_eq!(rt; status, Status::ConfigRefused);
     assert_eq!(rt;
         long.pushed(Port::Notes).as_slice(),
@@ -217,13 +277,13 @@ fn cuts_the_text_off_where_a_push_fails(rt: HostRuntime) -> Result<(), Fail> {
     let text = b"reset_pc = 0x80000000";
     let mut whole = host(alloc, text, &[], 0)?;
     assert_eq!(rt;
-        core_main(alloc, &words(alloc, "gen c")?, &mut whole),
+        status_of(alloc, &words(alloc, "gen c")?, &mut whole),
         Status::Done
     );
     // One call finds the file, two read it, and the third push fails.
     let mut cut = host(alloc, text, &[6], 100)?;
     assert_eq!(rt;
-        core_main(alloc, &words(alloc, "gen c")?, &mut cut),
+        status_of(alloc, &words(alloc, "gen c")?, &mut cut),
         Status::WriteFault
     );
     assert_eq!(rt; cut.pushed(Port::Main).len(), 200);
@@ -242,7 +302,7 @@ fn ends_where_the_line_is_cut_off(rt: HostRuntime) -> Result<(), Fail> {
     let alloc = rt.alloc();
     let mut host = host(alloc, b"reset_pc = 2147483646", &[4], 0)?;
     assert_eq!(rt;
-        core_main(alloc, &words(alloc, "gen c")?, &mut host),
+        status_of(alloc, &words(alloc, "gen c")?, &mut host),
         Status::WriteFault
     );
     assert!(rt; host.pushed(Port::Main).is_empty());
@@ -256,7 +316,7 @@ fn ends_where_one_call_fails(rt: HostRuntime) -> Result<(), Fail> {
     let text = b"reset_pc = 0x80000000";
     let mut whole = host(alloc, text, &[], 0)?;
     assert_eq!(rt;
-        core_main(alloc, &words(alloc, "gen c")?, &mut whole),
+        status_of(alloc, &words(alloc, "gen c")?, &mut whole),
         Status::Done
     );
     let core = whole.pushed(Port::Main).as_slice();
@@ -277,7 +337,7 @@ fn ends_where_one_call_fails(rt: HostRuntime) -> Result<(), Fail> {
     ] {
         let mut host = host(alloc, text, &[call], 0)?;
         assert_eq!(rt;
-            core_main(alloc, &words(alloc, "gen c")?, &mut host),
+            status_of(alloc, &words(alloc, "gen c")?, &mut host),
             status,
             "{call}"
         );
@@ -314,7 +374,7 @@ fn runs_an_image(rt: HostRuntime) -> Result<(), Fail> {
     ] {
         for bite in [0, 1] {
             let mut host = run_host(alloc, &IMAGE, &[], bite)?;
-            let answer = core_main(alloc, &words(alloc, text)?, &mut host);
+            let answer = status_of(alloc, &words(alloc, text)?, &mut host);
             assert_eq!(rt; answer, status, "{text}");
             assert_eq!(rt;
                 host.pushed(Port::Main).as_slice(),
@@ -344,7 +404,7 @@ fn refuses_a_long_image(rt: HostRuntime) -> Result<(), Fail> {
     let image = vec![in alloc; 0u8; 65_537]?;
     for bite in [0, 1] {
         let mut host = run_host(alloc, &image, &[], bite)?;
-        let status = core_main(alloc, &words(alloc, "run c i --trace")?, &mut host);
+        let status = status_of(alloc, &words(alloc, "run c i --trace")?, &mut host);
         assert_eq!(rt; status, Status::ImageRefused);
         assert_eq!(rt;
             host.pushed(Port::Notes).as_slice(),
@@ -360,7 +420,7 @@ fn runs_in_the_memory_of_the_configuration(rt: HostRuntime) -> Result<(), Fail> 
     let alloc = rt.alloc();
     let text = "reset_pc = 4096\nstages = 2\nmemory = { base = 4096, size = 16 }";
     let mut host = host_of_two(alloc, text, &IMAGE, &[], 0)?;
-    let status = core_main(alloc, &words(alloc, "run c i --trace")?, &mut host);
+    let status = status_of(alloc, &words(alloc, "run c i --trace")?, &mut host);
     assert_eq!(rt; status, Status::Stopped);
     assert_eq!(rt; host.pushed(Port::Main).as_slice(), LOW_LINES.as_bytes());
     Ok(())
@@ -381,7 +441,7 @@ fn refuses_images_behind_memory(rt: HostRuntime) -> Result<(), Fail> {
         ),
     ] {
         let mut host = host_of_two(alloc, text, &image, &[], 0)?;
-        let status = core_main(alloc, &words(alloc, "run c i")?, &mut host);
+        let status = status_of(alloc, &words(alloc, "run c i")?, &mut host);
         assert_eq!(rt; status, Status::ImageRefused, "{text}");
         assert_eq!(rt;
             host.pushed(Port::Notes).as_slice(),
@@ -402,7 +462,7 @@ fn looks_for_the_image_behind_an_accepted_configuration(rt: HostRuntime) -> Resu
         ("run i d", Status::ConfigRefused, "config text\n"),
     ] {
         let mut host = run_host(alloc, &IMAGE, &[], 0)?;
-        let answer = core_main(alloc, &words(alloc, text)?, &mut host);
+        let answer = status_of(alloc, &words(alloc, text)?, &mut host);
         assert_eq!(rt; answer, status, "{text}");
         assert_eq!(rt;
             host.pushed(Port::Notes).as_slice(),
@@ -420,7 +480,7 @@ fn cuts_a_run_off_where_a_push_fails(rt: HostRuntime) -> Result<(), Fail> {
     // Three calls read the configuration, and three the image.
     for push in [1, 2, 3] {
         let mut host = run_host(alloc, &IMAGE, &[6 + push], 0)?;
-        let status = core_main(alloc, &words(alloc, "run c i --trace")?, &mut host);
+        let status = status_of(alloc, &words(alloc, "run c i --trace")?, &mut host);
         assert_eq!(rt; status, Status::WriteFault, "{push}");
         let pushed = host.pushed(Port::Main).as_slice();
         assert!(rt; LINES.as_bytes().starts_with(pushed), "{push}");

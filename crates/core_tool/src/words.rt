@@ -1,5 +1,5 @@
 ghost use Rattle.std.specs.Prelude.{◌≡◌, map, option_map, string_bytes};
-ghost use Rattle.core_tool.specs.Words.{form_of, gen_of, is_name_lem, run_of, seen, words_of};
+ghost use Rattle.core_tool.specs.Words.{form_of, gen_of, is_name_lem, rules_of, run_of, seen, words_of};
 
 use crate::options::Options;
 
@@ -16,6 +16,10 @@ pub enum Form<'a> {
         image: &'a str,
         options: Options,
     },
+    /// Try the rules of acceptance on the configuration of this name.
+    Rules {
+        name: &'a str,
+    },
 }
 
 impl<'a> Form<'a> {
@@ -30,6 +34,8 @@ impl<'a> Form<'a> {
                     Form::of_gen(words)
                 } else if command.as_str() == "run" {
                     Form::of_run(words)
+                } else if command.as_str() == "rules" {
+                    Form::of_rules(words)
                 } else {
                     None
                 }
@@ -62,6 +68,18 @@ impl<'a> Form<'a> {
                     options,
                 })
             }
+            _ => None,
+        }
+    }
+
+    /// The form of the words behind `rules`.
+    fn of_rules(words: &'a [String]) -> Option<Form<'a>>
+        ensures { option_map seen result ≡ rules_of (map string_bytes words.now) }
+    {
+        match words {
+            [name] if is_name(name.as_str()) => Some(Form::Rules {
+                name: name.as_str(),
+            }),
             _ => None,
         }
     }

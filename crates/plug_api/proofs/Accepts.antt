@@ -1,5 +1,5 @@
 -- From the steps of acceptance to its rules.
-use Rattle.std.proofs.Common.{◌≡◌, ℕ, List, length, Option, Result, Err, refl, ◌∙◌, arith}
+use Rattle.std.proofs.Common.{inr, ◌≡◌, ℕ, ◌≤◌, List, length, Option, Result, Err, refl, ◌∙◌, arith}
 use Rattle.stage_map.specs.declared.config.PlugEntry.{PlugEntry}
 use Rattle.stage_map.specs.declared.config.Config.{Config}
 use Rattle.plug_api.specs.declared.spec.PlugSpec.{PlugSpec}
@@ -9,7 +9,7 @@ use Rattle.plug_api.specs.declared.refusal.RuleRefusal.{RuleRefusal}
 use Rattle.plug_api.specs.declared.refusal.RuleRefusal.TheVariants.{UnknownPlugin, RepeatedPlugin, BadParam, Missing, Double, CycleOfNeeds, EncodingClash, IsaMissing, IsaExtra, StageAbsent, StageOrder, KeyTwice, TooLarge, NoMemory}
 use Rattle.plug_api.specs.Picks.{AreFaultless, IsFirstFault, AreConfigured}
 use Rattle.plug_api.specs.SoFar.{AreSaid}
-use Rattle.plug_api.specs.Accept.{AreNamed, AreTaken, AreKnown, SpecsHold, IsPlanOf, IsFirstOfSpecs, IsAccepted, IsFirstRefusal, IsLeft}
+use Rattle.plug_api.specs.Accept.{AreNamed, AreTaken, AreKnown, SpecsHold, IsPlanOf, IsFirstOfSpecs, IsAccepted, IsFirstRefusal, IsLeft, IsLeftShort}
 
 pub err_is : {T E : Type 0} {a b : E} → ◌≡◌ {A = Result T E} (Err a) (Err b) → a ≡ b
 err_is e = cc
@@ -80,6 +80,12 @@ module _ {B : Type 0} (kind : B → List ℕ) (taken : B → Option PlugEntry) (
   rest_left old new cfg picks specs (KeyTwice key a b) named all first = record { picks = picks; named = named; configured = all }
   rest_left old new cfg picks specs (TooLarge wanted limit) named all first = record { picks = picks; named = named; configured = all }
   rest_left old new cfg picks specs NoMemory named all first = tt
+
+  -- the boxes of the first entries took them
+  pub left_short : (old new : List B) (cfg : Config) (picks : List ℕ) → AreNamed kind old cfg.entries picks
+      → (count : ℕ) × (count ≤ length cfg.entries) × AreConfigured kind taken now fault spec old new picks cfg.entries count
+      → IsLeftShort kind taken now fault spec old new cfg
+  left_short old new cfg picks named first = inr (first.0, first.1, record { picks = picks; named = named; configured = first.2 })
 
   pub all_accepted : (old : List B) (cfg : Config) (picks : List ℕ) (specs : List PlugSpec) (plan : Plan) → AreKnown kind fault spec old cfg.entries picks specs
       → SpecsHold cfg.shape specs → IsPlanOf cfg.shape picks specs plan → IsAccepted kind fault spec old cfg plan

@@ -5,3 +5,5 @@ pub mod Gathers
 pub mod Stages
 pub mod Said
 pub mod Accepts
+pub mod Verdicts
+pub mod OneRefusal

@@ -1,5 +1,5 @@
 -- The rules of acceptance in their order: when all hold, and which fails first.
-use Rattle.std.specs.Prelude.{◌≡◌, ℕ, ◌<◌, ◌≤◌, ◌%◌, ◌++◌, ◌↔◌, List, [], ◌∷◌, length, get_or, map, suc, IsTrue, Option, None, Some}
+use Rattle.std.specs.Prelude.{◌≡◌, ℕ, ◌<◌, ◌≤◌, ◌%◌, ◌++◌, ◌↔◌, ◌⊎◌, List, [], ◌∷◌, length, get_or, map, suc, IsTrue, Option, None, Some}
 use Rattle.stage_map.specs.declared.config.PlugEntry.{PlugEntry}
 use Rattle.stage_map.specs.declared.config.Config.{Config}
 use Rattle.stage_map.specs.declared.config.CoreShape.{CoreShape}
@@ -285,3 +285,10 @@ IsLeft kind taken now fault spec old new cfg (StageOrder key reader writer) = Ha
 IsLeft kind taken now fault spec old new cfg (KeyTwice key a b) = HaveTaken kind taken now fault spec old new cfg.entries (length cfg.entries)
 IsLeft kind taken now fault spec old new cfg (TooLarge wanted limit) = HaveTaken kind taken now fault spec old new cfg.entries (length cfg.entries)
 IsLeft kind taken now fault spec old new cfg NoMemory = Unit {0}
+
+-- what want of memory leaves of the boxes: all are as they were; or those of the first entries, up to some number, took
+-- them, and every other box is as it was
+abbrev pub IsLeftShort : {B : Type 0} → (kind : B → List ℕ) → (taken : B → Option PlugEntry) → (now : B → PlugSpec) → (fault : B → PlugEntry → Option ParamFault)
+    → (spec : B → PlugEntry → PlugSpec) → (old new : List B) → Config → Type 0
+IsLeftShort kind taken now fault spec old new cfg =
+    (new ≡ old) ⊎ ((count : ℕ) × (count ≤ length cfg.entries) × HaveTaken kind taken now fault spec old new cfg.entries count)

@@ -3,4 +3,3 @@ pub mod Picks
 pub mod Rules
 pub mod Accept
 pub mod SoFar
-pub mod Depth

@@ -1,5 +1,5 @@
 ghost use Rattle.std.specs.Prelude.{◌≡◌, ℕ, List, ◌⊎◌, ◌<◌, ◌≤◌, ◌^◌, length, get_or, Err, IfOk, IfErr};
-ghost use Rattle.plug_api.specs.Accept.{AreTaken, AreNamed, SpecsHold, IsFirstOfSpecs, IsChecked, rows_of, owners_of, IsPlanOf, MayBe, IsAccepted, IsFirstRefusal, IsRepeated, IsLeft};
+ghost use Rattle.plug_api.specs.Accept.{AreTaken, AreNamed, SpecsHold, IsFirstOfSpecs, IsChecked, rows_of, owners_of, IsPlanOf, MayBe, IsAccepted, IsFirstRefusal, IsRepeated, IsLeft, IsLeftShort};
 ghost use Rattle.plug_api.specs.Picks.{AreConfigured, AreFaultless, ArePicks, IsFirstFault, IsFirstUnknown, SameKinds, no_entry};
 ghost use Rattle.plug_api.specs.SoFar.{AreSaid};
 ghost use Rattle.plug_api.specs.Spec.{IsSpec, no_spec};
@@ -173,6 +173,9 @@ fn take_all(
         → (entry : ℕ) × (fault : _) × (r ≡ RuleRefusal.BadParam entry fault) × IsFirstFault (λ b e. first_fault b e) plugs.old.items picks.now.items entries.now.items entry fault
         × AreConfigured (λ b. kind b) (λ b. taken b) (λ b. spec_now b) (λ b e. first_fault b e) (λ b e. spec_taken b e)
         plugs.old.items plugs.new.items picks.now.items entries.now.items entry) }
+    ensures stopped { IfErr result (λ r. (count : ℕ) × (count ≤ length entries.now.items)
+        × AreConfigured (λ b. kind b) (λ b. taken b) (λ b. spec_now b) (λ b e. first_fault b e) (λ b e. spec_taken b e)
+        plugs.old.items plugs.new.items picks.now.items entries.now.items count) }
     ensures kept { SameKinds (λ b. kind b) (λ b e. first_fault b e) (λ b e. spec_taken b e) plugs.old.items plugs.new.items }
 {
     match configure_all(alloc, entries, plugs, picks) {
@@ -189,7 +192,8 @@ fn take_all(
 ///
 /// An entry names the first plug-in of its kind. Where each entry names one and no two name the same (rules 1 and 2),
 /// the entries are given to their plug-ins in order, up to the first that is refused (rule 3); the other rules are
-/// tried on what the plug-ins say of themselves then. Plug-ins keep what they took.
+/// tried on what the plug-ins say of themselves then. Plug-ins keep what they took, and the others stay as they were,
+/// also where memory is refused.
 ///
 /// # Errors
 /// The first rule that fails, at its first place (`RuleRefusal` has the rules in their order); `NoMemory` where memory
@@ -208,6 +212,8 @@ pub fn accept(
         plugs.old.items plugs.new.items plan.picks cfg.now.entries (length cfg.now.entries)) }
     ensures left { (r : RuleRefusal) → result ≡ Err r → (r ≡ RuleRefusal.NoMemory → ⊥)
         → IsLeft (λ b. kind b) (λ b. taken b) (λ b. spec_now b) (λ b e. first_fault b e) (λ b e. spec_taken b e) plugs.old.items plugs.new.items cfg.now r }
+    ensures short { result ≡ Err RuleRefusal.NoMemory
+        → IsLeftShort (λ b. kind b) (λ b. taken b) (λ b. spec_now b) (λ b e. first_fault b e) (λ b e. spec_taken b e) plugs.old.items plugs.new.items cfg.now }
     ensures kept { SameKinds (λ b. kind b) (λ b e. first_fault b e) (λ b e. spec_taken b e) plugs.old.items plugs.new.items }
 {
     let entries = cfg.entries.items();

@@ -53,6 +53,9 @@ pub(crate) fn configure_all(
         → (entry : ℕ) × (fault : _) × (r ≡ RuleRefusal.BadParam entry fault) × IsFirstFault (λ b e. first_fault b e) plugs.old.items picks.now.items entries.now.items entry fault
         × AreConfigured (λ b. kind b) (λ b. taken b) (λ b. spec_now b) (λ b e. first_fault b e) (λ b e. spec_taken b e)
         plugs.old.items plugs.new.items picks.now.items entries.now.items entry) }
+    ensures stopped { IfErr result (λ r. (count : ℕ) × (count < length entries.now.items)
+        × AreConfigured (λ b. kind b) (λ b. taken b) (λ b. spec_now b) (λ b e. first_fault b e) (λ b e. spec_taken b e)
+        plugs.old.items plugs.new.items picks.now.items entries.now.items count) }
     ensures kept { SameKinds (λ b. kind b) (λ b e. first_fault b e) (λ b e. spec_taken b e) plugs.old.items plugs.new.items }
 {
     for i in 0..entries.len() {

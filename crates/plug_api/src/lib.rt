@@ -6,17 +6,14 @@ mod checks;
 mod claims;
 mod configure;
 mod copies;
+mod law;
 mod picks;
 mod plugin;
 mod refusal;
 mod spec;
 
 pub use acceptance::accept;
+pub use law::{one_first_refusal, refusals_exclude};
 pub use plugin::Plugin;
 pub use refusal::RuleRefusal;
 pub use spec::{Cost, ParamFault, Place, Plan, PlugSpec};
-
-#[cfg(test)]
-mod spec_box;
-#[cfg(test)]
-mod tests;

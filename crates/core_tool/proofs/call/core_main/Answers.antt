@@ -5,6 +5,8 @@ use Rattle.core_tool.specs.Words.{form_of, words_of}
 use Rattle.core_tool.specs.Lines.{line_of}
 use Rattle.core_tool.proofs.Calls.{Rose-earlier}
 use Rattle.core_tool.proofs.Statuses.{cut_clause, cycles_clause, end_later, has_line, image_clause, missing_clause, pulled_later, refused_clause, run_clause, stopped_clause}
+use Rattle.core_tool.proofs.RuleEnds.{accepted_clause, rules_clause, rules_only_clause}
+use Rattle.plug_api.proofs.Verdicts.{refusal_excludes}
 use Rattle.core_tool.proofs.call.core_main.Goals as goal
 
 pub returns-in-Ok-clause-ends : goal.returns-in-Ok-clause-ends
@@ -12,7 +14,7 @@ returns-in-Ok-clause-ends g c =
     let form = form_of (words_of c.args.words.now) in
     let files = g.H.Host.files c.args.host.now in
     let end = c.work-end.result in
-    let done = end_later form files (g.H.Host.read_faults c.args.host.now) (g.H.Host.read_faults c.work-end.new.host) (g.H.Host.read_faults c.push_line.new.host)
+    let done = end_later _ form files (g.H.Host.read_faults c.args.host.now) (g.H.Host.read_faults c.work-end.new.host) (g.H.Host.read_faults c.push_line.new.host)
     (g.H.Host.write_faults c.args.host.now) (g.H.Host.write_faults c.work-end.new.host) (g.H.Host.write_faults c.push_line.new.host)
     (g.H.Host.pushed c.args.host.now Main) (g.H.Host.pushed c.work-end.new.host Main) (g.H.Host.pushed c.push_line.new.host Main) end
     c.push_line.ensures.reads c.push_line.ensures.writes (c.push_line.ensures.others Main (λ e. cc)) c.work-end.ensures.ends in
@@ -24,69 +26,103 @@ returns-in-Ok-clause-image g c =
     let form = form_of (words_of c.args.words.now) in
     let files = g.H.Host.files c.args.host.now in
     let end = c.work-end.result in
-    let done = end_later form files (g.H.Host.read_faults c.args.host.now) (g.H.Host.read_faults c.work-end.new.host) (g.H.Host.read_faults c.push_line.new.host)
+    let done = end_later _ form files (g.H.Host.read_faults c.args.host.now) (g.H.Host.read_faults c.work-end.new.host) (g.H.Host.read_faults c.push_line.new.host)
     (g.H.Host.write_faults c.args.host.now) (g.H.Host.write_faults c.work-end.new.host) (g.H.Host.write_faults c.push_line.new.host)
     (g.H.Host.pushed c.args.host.now Main) (g.H.Host.pushed c.work-end.new.host Main) (g.H.Host.pushed c.push_line.new.host Main) end
     c.push_line.ensures.reads c.push_line.ensures.writes (c.push_line.ensures.others Main (λ e. cc)) c.work-end.ensures.ends in
-    image_clause form files _ _ _ _ _ _ end c.status.result done c.status.ensures
+    image_clause _ form files _ _ _ _ _ _ end c.status.result done c.status.ensures
 
 pub returns-in-Ok-clause-image_missing : goal.returns-in-Ok-clause-image_missing
 returns-in-Ok-clause-image_missing g c =
     let form = form_of (words_of c.args.words.now) in
     let files = g.H.Host.files c.args.host.now in
     let end = c.work-end.result in
-    let done = end_later form files (g.H.Host.read_faults c.args.host.now) (g.H.Host.read_faults c.work-end.new.host) (g.H.Host.read_faults c.push_line.new.host)
+    let done = end_later _ form files (g.H.Host.read_faults c.args.host.now) (g.H.Host.read_faults c.work-end.new.host) (g.H.Host.read_faults c.push_line.new.host)
     (g.H.Host.write_faults c.args.host.now) (g.H.Host.write_faults c.work-end.new.host) (g.H.Host.write_faults c.push_line.new.host)
     (g.H.Host.pushed c.args.host.now Main) (g.H.Host.pushed c.work-end.new.host Main) (g.H.Host.pushed c.push_line.new.host Main) end
     c.push_line.ensures.reads c.push_line.ensures.writes (c.push_line.ensures.others Main (λ e. cc)) c.work-end.ensures.ends in
-    missing_clause form files _ _ _ _ _ _ end c.status.result done c.status.ensures
+    missing_clause _ form files _ _ _ _ _ _ end c.status.result done c.status.ensures
 
 pub returns-in-Ok-clause-refused_only : goal.returns-in-Ok-clause-refused_only
 returns-in-Ok-clause-refused_only g c =
     let form = form_of (words_of c.args.words.now) in
     let files = g.H.Host.files c.args.host.now in
     let end = c.work-end.result in
-    let done = end_later form files (g.H.Host.read_faults c.args.host.now) (g.H.Host.read_faults c.work-end.new.host) (g.H.Host.read_faults c.push_line.new.host)
+    let done = end_later _ form files (g.H.Host.read_faults c.args.host.now) (g.H.Host.read_faults c.work-end.new.host) (g.H.Host.read_faults c.push_line.new.host)
     (g.H.Host.write_faults c.args.host.now) (g.H.Host.write_faults c.work-end.new.host) (g.H.Host.write_faults c.push_line.new.host)
     (g.H.Host.pushed c.args.host.now Main) (g.H.Host.pushed c.work-end.new.host Main) (g.H.Host.pushed c.push_line.new.host Main) end
     c.push_line.ensures.reads c.push_line.ensures.writes (c.push_line.ensures.others Main (λ e. cc)) c.work-end.ensures.ends in
     let line = subst (λ p. Appends p (line_of end) (g.H.Host.pushed c.push_line.new.host Notes)) c.work-end.ensures.notes c.in-Ok.ensures.whole in
-    refused_clause form files _ _ _ _ _ _ _ _ end c.status.result done c.status.ensures line
+    refused_clause _ form files _ _ _ _ _ _ _ _ end c.status.result done c.status.ensures line
 
 pub returns-in-Ok-clause-cycles_only : goal.returns-in-Ok-clause-cycles_only
 returns-in-Ok-clause-cycles_only g c =
     let form = form_of (words_of c.args.words.now) in
     let files = g.H.Host.files c.args.host.now in
     let end = c.work-end.result in
-    let done = end_later form files (g.H.Host.read_faults c.args.host.now) (g.H.Host.read_faults c.work-end.new.host) (g.H.Host.read_faults c.push_line.new.host)
+    let done = end_later _ form files (g.H.Host.read_faults c.args.host.now) (g.H.Host.read_faults c.work-end.new.host) (g.H.Host.read_faults c.push_line.new.host)
     (g.H.Host.write_faults c.args.host.now) (g.H.Host.write_faults c.work-end.new.host) (g.H.Host.write_faults c.push_line.new.host)
     (g.H.Host.pushed c.args.host.now Main) (g.H.Host.pushed c.work-end.new.host Main) (g.H.Host.pushed c.push_line.new.host Main) end
     c.push_line.ensures.reads c.push_line.ensures.writes (c.push_line.ensures.others Main (λ e. cc)) c.work-end.ensures.ends in
     let line = subst (λ p. Appends p (line_of end) (g.H.Host.pushed c.push_line.new.host Notes)) c.work-end.ensures.notes c.in-Ok.ensures.whole in
-    cycles_clause form files _ _ _ _ _ _ _ _ end c.status.result done c.status.ensures line
+    cycles_clause _ form files _ _ _ _ _ _ _ _ end c.status.result done c.status.ensures line
 
 pub returns-in-Ok-clause-stopped_only : goal.returns-in-Ok-clause-stopped_only
 returns-in-Ok-clause-stopped_only g c =
     let form = form_of (words_of c.args.words.now) in
     let files = g.H.Host.files c.args.host.now in
     let end = c.work-end.result in
-    let done = end_later form files (g.H.Host.read_faults c.args.host.now) (g.H.Host.read_faults c.work-end.new.host) (g.H.Host.read_faults c.push_line.new.host)
+    let done = end_later _ form files (g.H.Host.read_faults c.args.host.now) (g.H.Host.read_faults c.work-end.new.host) (g.H.Host.read_faults c.push_line.new.host)
     (g.H.Host.write_faults c.args.host.now) (g.H.Host.write_faults c.work-end.new.host) (g.H.Host.write_faults c.push_line.new.host)
     (g.H.Host.pushed c.args.host.now Main) (g.H.Host.pushed c.work-end.new.host Main) (g.H.Host.pushed c.push_line.new.host Main) end
     c.push_line.ensures.reads c.push_line.ensures.writes (c.push_line.ensures.others Main (λ e. cc)) c.work-end.ensures.ends in
     let line = subst (λ p. Appends p (line_of end) (g.H.Host.pushed c.push_line.new.host Notes)) c.work-end.ensures.notes c.in-Ok.ensures.whole in
-    stopped_clause form files _ _ _ _ _ _ _ _ end c.status.result done c.status.ensures line
+    stopped_clause _ form files _ _ _ _ _ _ _ _ end c.status.result done c.status.ensures line
 
 pub returns-in-Ok-clause-run_complete : goal.returns-in-Ok-clause-run_complete
 returns-in-Ok-clause-run_complete g c =
     let form = form_of (words_of c.args.words.now) in
     let files = g.H.Host.files c.args.host.now in
     let end = c.work-end.result in
-    let done = end_later form files (g.H.Host.read_faults c.args.host.now) (g.H.Host.read_faults c.work-end.new.host) (g.H.Host.read_faults c.push_line.new.host)
+    let done = end_later _ form files (g.H.Host.read_faults c.args.host.now) (g.H.Host.read_faults c.work-end.new.host) (g.H.Host.read_faults c.push_line.new.host)
     (g.H.Host.write_faults c.args.host.now) (g.H.Host.write_faults c.work-end.new.host) (g.H.Host.write_faults c.push_line.new.host)
     (g.H.Host.pushed c.args.host.now Main) (g.H.Host.pushed c.work-end.new.host Main) (g.H.Host.pushed c.push_line.new.host Main) end
     c.push_line.ensures.reads c.push_line.ensures.writes (c.push_line.ensures.others Main (λ e. cc)) c.work-end.ensures.ends in
-    run_clause form files _ _ _ _ _ _ end c.status.result done c.status.ensures
+    run_clause _ form files _ _ _ _ _ _ end c.status.result done c.status.ensures
+
+pub returns-in-Ok-clause-rules_only : goal.returns-in-Ok-clause-rules_only
+returns-in-Ok-clause-rules_only g c =
+    let form = form_of (words_of c.args.words.now) in
+    let files = g.H.Host.files c.args.host.now in
+    let end = c.work-end.result in
+    let done = end_later _ form files (g.H.Host.read_faults c.args.host.now) (g.H.Host.read_faults c.work-end.new.host) (g.H.Host.read_faults c.push_line.new.host)
+    (g.H.Host.write_faults c.args.host.now) (g.H.Host.write_faults c.work-end.new.host) (g.H.Host.write_faults c.push_line.new.host)
+    (g.H.Host.pushed c.args.host.now Main) (g.H.Host.pushed c.work-end.new.host Main) (g.H.Host.pushed c.push_line.new.host Main) end
+    c.push_line.ensures.reads c.push_line.ensures.writes (c.push_line.ensures.others Main (λ e. cc)) c.work-end.ensures.ends in
+    let line = subst (λ p. Appends p (line_of end) (g.H.Host.pushed c.push_line.new.host Notes)) c.work-end.ensures.notes c.in-Ok.ensures.whole in
+    rules_only_clause _ form files _ _ _ _ _ _ _ _ end c.status.result done c.status.ensures line
+
+pub returns-in-Ok-clause-rules : goal.returns-in-Ok-clause-rules
+returns-in-Ok-clause-rules g c =
+    let form = form_of (words_of c.args.words.now) in
+    let files = g.H.Host.files c.args.host.now in
+    let end = c.work-end.result in
+    let done = end_later _ form files (g.H.Host.read_faults c.args.host.now) (g.H.Host.read_faults c.work-end.new.host) (g.H.Host.read_faults c.push_line.new.host)
+    (g.H.Host.write_faults c.args.host.now) (g.H.Host.write_faults c.work-end.new.host) (g.H.Host.write_faults c.push_line.new.host)
+    (g.H.Host.pushed c.args.host.now Main) (g.H.Host.pushed c.work-end.new.host Main) (g.H.Host.pushed c.push_line.new.host Main) end
+    c.push_line.ensures.reads c.push_line.ensures.writes (c.push_line.ensures.others Main (λ e. cc)) c.work-end.ensures.ends in
+    rules_clause _ form files _ _ _ _ _ _ end c.status.result (λ config refusal a r. refusal_excludes _ _ _ _ config _ refusal a.1 r) done c.status.ensures
+
+pub returns-in-Ok-clause-rules_complete : goal.returns-in-Ok-clause-rules_complete
+returns-in-Ok-clause-rules_complete g c =
+    let form = form_of (words_of c.args.words.now) in
+    let files = g.H.Host.files c.args.host.now in
+    let end = c.work-end.result in
+    let done = end_later _ form files (g.H.Host.read_faults c.args.host.now) (g.H.Host.read_faults c.work-end.new.host) (g.H.Host.read_faults c.push_line.new.host)
+    (g.H.Host.write_faults c.args.host.now) (g.H.Host.write_faults c.work-end.new.host) (g.H.Host.write_faults c.push_line.new.host)
+    (g.H.Host.pushed c.args.host.now Main) (g.H.Host.pushed c.work-end.new.host Main) (g.H.Host.pushed c.push_line.new.host Main) end
+    c.push_line.ensures.reads c.push_line.ensures.writes (c.push_line.ensures.others Main (λ e. cc)) c.work-end.ensures.ends in
+    accepted_clause _ form files _ _ _ _ _ _ end c.status.result (λ config refusal a r. refusal_excludes _ _ _ _ config _ refusal a.1 r) done c.status.ensures
 
 pub returns-in-Ok-clause-notes : goal.returns-in-Ok-clause-notes
 returns-in-Ok-clause-notes g c =
@@ -109,7 +145,7 @@ returns-clause-ends g c =
     let form = form_of (words_of c.args.words.now) in
     let files = g.H.Host.files c.args.host.now in
     let end = c.work-end.result in
-    let done = end_later form files (g.H.Host.read_faults c.args.host.now) (g.H.Host.read_faults c.work-end.new.host) (g.H.Host.read_faults c.push_line.new.host)
+    let done = end_later _ form files (g.H.Host.read_faults c.args.host.now) (g.H.Host.read_faults c.work-end.new.host) (g.H.Host.read_faults c.push_line.new.host)
     (g.H.Host.write_faults c.args.host.now) (g.H.Host.write_faults c.work-end.new.host) (g.H.Host.write_faults c.push_line.new.host)
     (g.H.Host.pushed c.args.host.now Main) (g.H.Host.pushed c.work-end.new.host Main) (g.H.Host.pushed c.push_line.new.host Main) end
     c.push_line.ensures.reads c.push_line.ensures.writes (c.push_line.ensures.others Main (λ e. cc)) c.work-end.ensures.ends in
@@ -122,19 +158,19 @@ returns-clause-cut g c =
     let form = form_of (words_of c.args.words.now) in
     let files = g.H.Host.files c.args.host.now in
     let end = c.work-end.result in
-    let done = end_later form files (g.H.Host.read_faults c.args.host.now) (g.H.Host.read_faults c.work-end.new.host) (g.H.Host.read_faults c.push_line.new.host)
+    let done = end_later _ form files (g.H.Host.read_faults c.args.host.now) (g.H.Host.read_faults c.work-end.new.host) (g.H.Host.read_faults c.push_line.new.host)
     (g.H.Host.write_faults c.args.host.now) (g.H.Host.write_faults c.work-end.new.host) (g.H.Host.write_faults c.push_line.new.host)
     (g.H.Host.pushed c.args.host.now Main) (g.H.Host.pushed c.work-end.new.host Main) (g.H.Host.pushed c.push_line.new.host Main) end
     c.push_line.ensures.reads c.push_line.ensures.writes (c.push_line.ensures.others Main (λ e. cc)) c.work-end.ensures.ends in
     let cut = subst (λ p. IsCut p (line_of end) (g.H.Host.pushed c.push_line.new.host Notes)) c.work-end.ensures.notes c.in-Err.ensures.part in
-    λ is. cut_clause form files _ _ _ _ _ _ _ _ end done cut
+    λ is. cut_clause _ form files _ _ _ _ _ _ _ _ end done cut
 
 pub returns-clause-cut_notes : goal.returns-clause-cut_notes
 returns-clause-cut_notes g c =
     let form = form_of (words_of c.args.words.now) in
     let files = g.H.Host.files c.args.host.now in
     let end = c.work-end.result in
-    let done = end_later form files (g.H.Host.read_faults c.args.host.now) (g.H.Host.read_faults c.work-end.new.host) (g.H.Host.read_faults c.push_line.new.host)
+    let done = end_later _ form files (g.H.Host.read_faults c.args.host.now) (g.H.Host.read_faults c.work-end.new.host) (g.H.Host.read_faults c.push_line.new.host)
     (g.H.Host.write_faults c.args.host.now) (g.H.Host.write_faults c.work-end.new.host) (g.H.Host.write_faults c.push_line.new.host)
     (g.H.Host.pushed c.args.host.now Main) (g.H.Host.pushed c.work-end.new.host Main) (g.H.Host.pushed c.push_line.new.host Main) end
     c.push_line.ensures.reads c.push_line.ensures.writes (c.push_line.ensures.others Main (λ e. cc)) c.work-end.ensures.ends in

@@ -47,6 +47,20 @@ returns-in-Err-clause-refused g c = λ not_memory.
           (rw pick_is at c.in-Err.ensures.spec_kept),
     )
 
+pub returns-in-Err-clause-stopped : goal.returns-in-Err-clause-stopped
+returns-in-Err-clause-stopped g c =
+    let i : ℕ = c.loop-i.i in
+    let h : i < length c.args.entries.now.items = omega arith in
+    let low : i < length c.args.picks.now.items = omega (arith, c.requires.picks.one_each) in
+    let pick_is : c.index.result.now ≡ get_or c.args.picks.now.items i 0 = c.index.ensures ∙ get_or_default c.args.picks.now.items i c.index.result.now 0 low in (
+      i,
+      h,
+      refuse_step _ _ _ _ _ _ _ _ _ _ _ _ (λ d. picks_differ _ _ d _ _ c.requires.picks c.requires.distinct) h c.loop-i.invariant
+          (rw pick_is at c.in-Err.ensures.changed)
+          (rw pick_is at c.in-Err.ensures.not_taken)
+          (rw pick_is at c.in-Err.ensures.spec_kept),
+    )
+
 pub returns-clause-ok : goal.returns-clause-ok
 returns-clause-ok g c =
     let e : c.loop-i.i ≡ length c.args.entries.now.items = omega arith in

@@ -1,6 +1,0 @@
-use Rattle.std.proofs.Common.{◌<◌, ℕ, get_or}
-use Rattle.plug_api.specs.Spec.{IsOfBus, no_claim}
-use Rattle.plug_api.proofs.spec_box.use_bus.Given as goal
-
-abbrev pub invariant-loop-k : goal.invariant-loop-k
-invariant-loop-k l = (i : ℕ) → i < l.k → IsOfBus (get_or l.rows.items i no_claim).row → ⊥
