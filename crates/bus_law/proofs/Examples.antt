@@ -1,10 +1,11 @@
--- Computed examples of memory, and cores that break a duty.
-use Rattle.std.proofs.Common.{◌≡◌, ℕ, ◌<◌, true, false, [], ◌∷◌, ◌^◌, Some, None, All, refl, inl, arith, lit<, lit≤}
+-- Computed examples of memory and of what stands on a bus, and cores that break a duty.
+use Rattle.std.proofs.Common.{◌≡◌, ℕ, ◌+◌, ◌<◌, true, false, [], ◌∷◌, ◌^◌, Some, None, All, refl, inl, arith, lit<, lit≤}
 use Rattle.std.proofs.lemmas.List.Elements.{All-cons, All-nil}
 use Rattle.core_ports.specs.Trace.{Bus}
 use Rattle.bus_law.specs.Memory.{Memory, IsMemory, word_at, written, is_window, store_of, with_store}
 use Rattle.bus_law.specs.Protocol.{is_given, is_accepted, is_write, owed, memory_at, writes_before}
 use Rattle.bus_law.specs.Honest.{FetchReply, DataReply}
+use Rattle.bus_law.specs.Prompt.{store_at, given_from, IsPrompt}
 use Rattle.bus_law.specs.Duties.{breaks_standing, breaks_waiting, breaks_form}
 
 abbrev pub memory : Memory
@@ -96,6 +97,26 @@ record AreWrites : Type 0 where
 are_writes : AreWrites
 unfolding memory_at word_at written is_write is_accepted is_given writes_before
 are_writes = record { before = refl; after = refl; one = refl }
+
+record AreFirsts : Type 0 where
+  -- a command that stands was first given in cycle 1, and after an acceptance comes another
+  standing : given_from patient 4 ≡ 1
+  another : given_from hasty 4 ≡ 4
+  -- the store of a write
+  stored : store_at storing 1 ≡ store_of 0x80000004 0xaabbccdd 2
+
+are_firsts : AreFirsts
+unfolding given_from is_accepted is_given
+are_firsts = record { standing = refl; another = refl; stored = refl }
+
+-- in cycle 4 a bus that has not accepted the command of cycle 1 answers within 4 cycles, and not within 3
+within_four : IsPrompt patient 4 4
+unfolding given_from is_accepted is_given owed
+within_four = record { accepts = λ g a. lit≤ tt; answers = λ j o v. absurd (cc) }
+
+not_within_three : IsPrompt patient 3 4 → ⊥
+unfolding given_from is_accepted is_given
+not_within_three p = let l : 4 < 1 + 3 = p.accepts refl refl in omega arith
 
 -- a memory that a system may have
 abbrev pub word_memory : Memory

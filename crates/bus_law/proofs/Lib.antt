@@ -5,3 +5,7 @@ pub mod Turns
 pub mod Runs
 pub mod InTime
 pub mod RunsInTime
+pub mod ByStores
+pub mod Standing
+pub mod InTimeByCycle
+pub mod Waits

@@ -4,4 +4,6 @@ pub mod Sides
 pub mod Answers
 pub mod Protocol
 pub mod Honest
+pub mod Prompt
 pub mod Duties
+pub mod Standing

@@ -11,7 +11,10 @@ mod side;
 mod signals;
 
 pub use answerer::Answerer;
-pub use laws::answers_are_honest;
+pub use laws::{
+    answers_are_honest, waits_are_short, waits_have_a_first_cycle, within_is_by_cycle,
+    writes_are_stores,
+};
 pub use memory::Mem;
 pub use signals::{BusIn, BusOut};
 

@@ -9,6 +9,7 @@ use Rattle.isa_table.specs.Rows as row
 use Rattle.isa_table.proofs.Disjoint.{are_apart, first_row, first_le, meets_first}
 use Rattle.isa_model.specs.Machine.{Machine, register, has_row}
 use Rattle.isa_model.specs.Machine.Fetched.{Word}
+use Rattle.isa_model.specs.Effects.{keeps}
 use Rattle.isa_model.specs.Step.{Moment, Done, trap, retire, behind, act_of_row, outcome_of}
 use Rattle.fixed_core.specs.FixedSet.{fixed_set}
 use Rattle.fixed_core.proofs.Model.{Tests, tests_of, known, second_by, value_1, value_2, value_3, value_4, value_by, cause_by}
@@ -116,7 +117,7 @@ row_is_picked word h = ap (λ v. picked (record (tests_of word) { ecall = eqb v 
 
 -- a retirement with a value, and a trap that stops the machine
 abbrev pub goes_on : Machine → (word value : ℕ) → Done
-goes_on m word value = retire m word (Some value) (behind m.pc) None m.csrs
+goes_on m word value = retire m word (Some value) (behind m.pc) None keeps
 
 abbrev pub halts : Machine → (word cause : ℕ) → Done
 halts m word cause = trap false m word cause 0 None

@@ -4,7 +4,7 @@ use Rattle.std.proofs.Math.Path.{ap₂}
 use Rattle.std.proofs.lemmas.Bool.Decides.{nat_tests}
 use Rattle.core_words.specs.Values.{add_of, one_if}
 use Rattle.core_words.specs.Fields.{rd_of}
-use Rattle.core_ports.specs.Trace.{Bus, has_event, port_event}
+use Rattle.core_ports.specs.Trace.{Bus, has_event, port_event, lines_at}
 use Rattle.bus_law.specs.Memory.{Memory, word_at}
 use Rattle.bus_law.specs.Protocol.{is_given, is_accepted, owed, memory_at, writes_before}
 use Rattle.bus_law.specs.Honest.{FetchReply, Responds, fetch_reply, IsHonestAt, Honest}
@@ -12,9 +12,9 @@ use Rattle.bus_law.specs.Duties.{breaks_standing, breaks_waiting, breaks_form, i
 use Rattle.isa_csr.specs.Csrs.{reset_csrs, pending}
 use Rattle.isa_model.specs.Machine.{Machine, Fetched, machine_from, misa_of, is_interrupt}
 use Rattle.isa_model.specs.Machine.Event.{Retire, Trap}
-use Rattle.isa_model.specs.Step.{Moment, Done, outcome_of}
-use Rattle.isa_model.specs.Run.{History, now, last_cycle, writes_of, FetchedFrom, Possible, IsUnpressed, Continues, IsRun}
-use Rattle.pipe_refine.specs.Follows.{Goes, Follows, moment_at}
+use Rattle.isa_model.specs.Step.{Done, outcome_of}
+use Rattle.isa_model.specs.Run.{History, now, last_cycle, writes_of, FetchedFrom, Possible, IsUnpressed, Continues, IsRun, moment_in}
+use Rattle.isa_follow.specs.Follows.{Goes, Follows}
 use Rattle.fixed_core.specs.Core.{net_name, core_items, core_module}
 use Rattle.fixed_core.specs.Core as net
 use Rattle.fixed_core.specs.FixedSet.{fixed_set}
@@ -51,8 +51,8 @@ module _ (g : Given) (m : Memory) where
   abbrev bus : Bus
   bus = ib g
 
-  abbrev moments : ℕ → Moment
-  moments = moment_at (run g)
+  abbrev lines : ℕ → ℕ
+  lines = lines_at (run g)
 
   -- the machine out of reset, what a cycle's response fetches, and the steps before each cycle
   abbrev pub begun : Machine
@@ -71,7 +71,7 @@ module _ (g : Given) (m : Memory) where
     pub apart : ((at g k).owed && (at g k).stopped) ≡ false
     pub machine : now begun h ≡ machine_at (at g k) m
     pub command : IsOwed bus.cmd_addr (at g k).pc (at g k).owed (owed bus k)
-    pub runs : IsRun fixed_set begun moments h
+    pub runs : IsRun fixed_set begun lines h
     pub last : last_cycle h < k
     pub stores : writes_of h ≡ []
 
@@ -120,7 +120,7 @@ module _ (g : Given) (m : Memory) where
       response k (at g k).pc (at g k).owed (owed bus k) inv.command (both_true_left _ _ done) fair.responds (both_true_right _ _ done)
 
   goes_on : (k : ℕ) (h : History) → Inv k h → IsFair k → is_done (at g k) ≡ true
-      → Continues fixed_set begun moments h (record { cycle = k; done = did (at g k) m })
+      → Continues fixed_set begun lines h (record { cycle = k; done = did (at g k) m })
   goes_on k h inv fair done =
       let c = at g k in
       let running : c.stopped ≡ false = done_not_stopped c.owed c.stopped c.came inv.apart done in
@@ -132,16 +132,16 @@ module _ (g : Given) (m : Memory) where
         possible = possible_now begun h (now begun h).pc (fetched k) word;
         step = record {
           goes = ap (λ n. n.stopped) inv.machine ∙ running;
-          how = inr (ap (λ n. outcome_of fixed_set n (fetched k) (moments k)) inv.machine ∙ core_outcome c m (moments k) (word_fits g k));
+          how = inr (ap (λ n. outcome_of fixed_set n (fetched k) (moment_in lines k)) inv.machine ∙ core_outcome c m (moment_in lines k) (word_fits g k));
         };
-        unpressed = subst (λ b. IsUnpressed b moments (now begun h).csrs (last_cycle h) k) (sym (no_interrupt c m))
-            (k, inv.last, omega arith, ap (λ n. pending n.csrs (moments k).lines) inv.machine);
+        unpressed = subst (λ b. IsUnpressed b lines (now begun h).csrs (last_cycle h) k) (sym (no_interrupt c m))
+            (k, inv.last, omega arith, ap (λ n. pending n.csrs (lines k)) inv.machine);
       }
 
   -- ---- one cycle on: d that there is an event
 
   runs_on : (d : Bool) (k : ℕ) (h : History) → Inv k h → IsFair k → is_done (at g k) ≡ d
-      → IsRun fixed_set begun moments (grow d k (did (at g k) m) h)
+      → IsRun fixed_set begun lines (grow d k (did (at g k) m) h)
   runs_on true k h inv fair done = (inv.runs, goes_on k h inv fair done)
   runs_on false k h inv fair done = inv.runs
 
@@ -233,7 +233,7 @@ module _ (g : Given) (m : Memory) where
   unfolding past
   events k = goes (has_event (run g) k) k
 
-  runs_at : g.reset_pc % 4 ≡ 0 → (n : ℕ) → ((j : ℕ) → j < n → IsFair j) → IsRun fixed_set begun moments (past n)
+  runs_at : g.reset_pc % 4 ≡ 0 → (n : ℕ) → ((j : ℕ) → j < n → IsFair j) → IsRun fixed_set begun lines (past n)
   unfolding past
   runs_at a zero fair = tt
   runs_at a (suc k) fair = (invariant a k fair).runs

@@ -20,6 +20,8 @@ record AreRegisters : Type 0 where
   mepc_aligned : csr_read (csr_write fresh 0x341 0xffffffff) 0 0x341 ≡ Some 0xfffffffc
   -- mip is the lines of the cycle
   mip : csr_read fresh 0x80 0x344 ≡ Some 0x80
+  -- and no other bits
+  mip_narrow : csr_read fresh 0xffffffff 0x344 ≡ Some 0x888
   hart : csr_read fresh 0 0xf14 ≡ Some 0
   hart_kept : is_read_only 0xf14 ≡ true
   mscratch_written : is_read_only 0x340 ≡ false
@@ -27,7 +29,7 @@ record AreRegisters : Type 0 where
   absent : csr_read fresh 0 0x306 ≡ None
 
 are_registers : AreRegisters
-are_registers = record { mstatus = refl; misa = refl; mstatus_written = refl; mie_written = refl; misa_kept = refl; mtvec_aligned = refl; mepc_aligned = refl; mip = refl; hart = refl; hart_kept = refl; mscratch_written = refl; absent = refl }
+are_registers = record { mstatus = refl; misa = refl; mstatus_written = refl; mie_written = refl; misa_kept = refl; mtvec_aligned = refl; mepc_aligned = refl; mip = refl; mip_narrow = refl; hart = refl; hart_kept = refl; mscratch_written = refl; absent = refl }
 
 record AreInterrupts : Type 0 where
   -- MIE is 0 out of reset

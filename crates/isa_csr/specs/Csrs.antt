@@ -1,6 +1,6 @@
 -- The control and status registers of a machine with machine mode alone (RISC-V Privileged Architecture
 -- 20190608, chapter 3). mtvec is direct, and misa, mip and the machine's identity are read-only in effect.
-use Rattle.std.specs.Prelude.{ℕ, ◌+◌, ◌*◌, ◌/◌, ◌^◌, Bool, true, false, not, eqb, List, [], ◌∷◌, Option, Some, None, bit_and}
+use Rattle.std.specs.Prelude.{◌≡◌, ℕ, ◌+◌, ◌*◌, ◌/◌, ◌%◌, ◌^◌, Bool, true, false, not, eqb, List, [], ◌∷◌, Option, Some, None, bit_and}
 use Rattle.core_words.specs.Values.{bits_of}
 
 pub record Csrs : Type 0 where
@@ -18,6 +18,11 @@ pub record Csrs : Type 0 where
   pub mcause : ℕ
   pub mtval : ℕ
 
+-- the addresses of the handler and of the return are multiples of 4
+pub record IsCsrs (c : Csrs) : Type 0 where
+  pub mtvec : c.mtvec % 4 ≡ 0
+  pub mepc : c.mepc % 4 ≡ 0
+
 abbrev pub reset_csrs : (misa : ℕ) → Csrs
 reset_csrs misa = record { mie_bit = 0; mpie_bit = 0; misa = misa; mie = 0; mtvec = 0; mscratch = 0; mepc = 0; mcause = 0; mtval = 0 }
 
@@ -28,11 +33,11 @@ mstatus_of c = 3 * 2 ^ 11 + c.mpie_bit * 2 ^ 7 + c.mie_bit * 2 ^ 3
 abbrev pub interrupt_bits : ℕ
 interrupt_bits = 0x888
 
--- what each register reads by its number, with the interrupt lines of the cycle, for mip
+-- what each register reads by its number; mip has the interrupt lines of the cycle, and no other bits (3.1.9)
 abbrev pub readable : Csrs → (lines : ℕ) → List (ℕ × ℕ)
 readable c lines =
     (0x300, mstatus_of c) ∷ (0x301, c.misa) ∷ (0x304, c.mie) ∷ (0x305, c.mtvec)
-    ∷ (0x340, c.mscratch) ∷ (0x341, c.mepc) ∷ (0x342, c.mcause) ∷ (0x343, c.mtval) ∷ (0x344, lines)
+    ∷ (0x340, c.mscratch) ∷ (0x341, c.mepc) ∷ (0x342, c.mcause) ∷ (0x343, c.mtval) ∷ (0x344, bit_and lines interrupt_bits)
     ∷ (0xf11, 0) ∷ (0xf12, 0) ∷ (0xf13, 0) ∷ (0xf14, 0) ∷ []
 
 abbrev pub at_number : List (ℕ × ℕ) → (number : ℕ) → Option ℕ

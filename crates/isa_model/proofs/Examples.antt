@@ -17,8 +17,11 @@ memory = record { base = 0x80000000; bytes = 0x93 ∷ 0x00 ∷ 0x50 ∷ 0x00 ∷
 abbrev pub start : Machine
 start = machine_from every_row (replicate 32 0) 0x80000000 memory
 
-abbrev pub quiet : ℕ → Moment
-quiet k = record { lines = 0 }
+abbrev pub quiet : ℕ → ℕ
+quiet k = 0
+
+abbrev pub at_rest : Moment
+at_rest = record { lines = 0 }
 
 -- what the outcome gives, or no event where it gives none
 abbrev pub done_or : Option Done → Machine → Done
@@ -26,7 +29,7 @@ done_or (Some d) m = d
 done_or None m = record { event = Trap 0 0 0 true; write = None; new = m }
 
 abbrev pub step_on : Machine → ℕ → Done
-step_on m word = done_or (outcome_of every_row m (Word word) (quiet 0)) m
+step_on m word = done_or (outcome_of every_row m (Word word) at_rest) m
 
 unfoldable pub first : Done
 first = step_on start 0x00500093
@@ -74,7 +77,7 @@ is_run : IsRun every_row start quiet history
 is_run = ((((tt, one_step), two_steps), three_steps), four_steps)
 
 -- a stopped machine has no step
-no_step : (d : Done) → Step every_row (record start { stopped = true }) (Word 0x00500093) (quiet 0) d → ⊥
+no_step : (d : Done) → Step every_row (record start { stopped = true }) (Word 0x00500093) at_rest d → ⊥
 no_step d s = let e : true ≡ false = s.goes in cc
 
 -- another word than memory's is not possible
@@ -90,7 +93,7 @@ record AreOutcomes : Type 0 where
   zero_register : register (7 ∷ 8 ∷ []) 0 ≡ 0
   one_register : register (7 ∷ 8 ∷ []) 1 ≡ 8
   -- a fetch outside memory
-  fetch_fault : (done_or (outcome_of every_row start Error (quiet 0)) start).event ≡ Trap 0x80000000 0 1 true
+  fetch_fault : (done_or (outcome_of every_row start Error at_rest) start).event ≡ Trap 0x80000000 0 1 true
   -- ECALL and EBREAK, which every set has
   call : (step_on start 0x73).event ≡ Trap 0x80000000 0x73 11 true
   breakpoint : (step_on start 0x100073).event ≡ Trap 0x80000000 0x100073 3 true

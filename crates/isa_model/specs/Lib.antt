@@ -1,3 +1,4 @@
 pub mod Machine
+pub mod Effects
 pub mod Step
 pub mod Run

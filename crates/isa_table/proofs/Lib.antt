@@ -3,3 +3,4 @@ pub mod Disjoint
 pub mod Overlap
 pub mod Places
 pub mod Numbers
+pub mod Uses

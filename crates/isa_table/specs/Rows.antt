@@ -50,6 +50,12 @@ pub record TableRow : Type 0 where
   pub mask : ℕ
   pub value : ℕ
   pub group : Group
+  -- the action depends on a
+  pub uses_a : Bool
+  -- it depends on b
+  pub uses_b : Bool
+  -- the instruction has a value where it retires
+  pub has_value : Bool
   pub action : (pc word a b : ℕ) → Action
 
 -- a jump to a target, whose value is the address behind it (2.5)
@@ -77,183 +83,183 @@ csr_change_of change word operand = AccessesCsr (csr_of word) change operand (no
 -- ---- RV32I: integer computations, jumps, branches, loads and stores
 
 abbrev pub lui : TableRow
-lui = record { number = 0; name = codes "LUI"; mask = 0x7f; value = 0x37; group = Alu; action = λ pc word a b. Computes (imm_u word) }
+lui = record { number = 0; name = codes "LUI"; mask = 0x7f; value = 0x37; group = Alu; uses_a = false; uses_b = false; has_value = true; action = λ pc word a b. Computes (imm_u word) }
 
 abbrev pub auipc : TableRow
-auipc = record { number = 1; name = codes "AUIPC"; mask = 0x7f; value = 0x17; group = Alu; action = λ pc word a b. Computes (add_of 32 pc (imm_u word)) }
+auipc = record { number = 1; name = codes "AUIPC"; mask = 0x7f; value = 0x17; group = Alu; uses_a = false; uses_b = false; has_value = true; action = λ pc word a b. Computes (add_of 32 pc (imm_u word)) }
 
 abbrev pub jal : TableRow
-jal = record { number = 2; name = codes "JAL"; mask = 0x7f; value = 0x6f; group = Branch; action = λ pc word a b. jump_to pc (add_of 32 pc (imm_j word)) }
+jal = record { number = 2; name = codes "JAL"; mask = 0x7f; value = 0x6f; group = Branch; uses_a = false; uses_b = false; has_value = true; action = λ pc word a b. jump_to pc (add_of 32 pc (imm_j word)) }
 
 abbrev pub jalr : TableRow
-jalr = record { number = 3; name = codes "JALR"; mask = 0x707f; value = 0x67; group = Branch; action = λ pc word a b. jump_to pc (add_of 32 a (imm_i word) / 2 * 2) }
+jalr = record { number = 3; name = codes "JALR"; mask = 0x707f; value = 0x67; group = Branch; uses_a = true; uses_b = false; has_value = true; action = λ pc word a b. jump_to pc (add_of 32 a (imm_i word) / 2 * 2) }
 
 abbrev pub beq : TableRow
-beq = record { number = 4; name = codes "BEQ"; mask = 0x707f; value = 0x63; group = Branch; action = λ pc word a b. branch_if (eqb a b) pc word }
+beq = record { number = 4; name = codes "BEQ"; mask = 0x707f; value = 0x63; group = Branch; uses_a = true; uses_b = true; has_value = false; action = λ pc word a b. branch_if (eqb a b) pc word }
 
 abbrev pub bne : TableRow
-bne = record { number = 5; name = codes "BNE"; mask = 0x707f; value = 0x1063; group = Branch; action = λ pc word a b. branch_if (not (eqb a b)) pc word }
+bne = record { number = 5; name = codes "BNE"; mask = 0x707f; value = 0x1063; group = Branch; uses_a = true; uses_b = true; has_value = false; action = λ pc word a b. branch_if (not (eqb a b)) pc word }
 
 abbrev pub blt : TableRow
-blt = record { number = 6; name = codes "BLT"; mask = 0x707f; value = 0x4063; group = Branch; action = λ pc word a b. branch_if (is_less_signed a b) pc word }
+blt = record { number = 6; name = codes "BLT"; mask = 0x707f; value = 0x4063; group = Branch; uses_a = true; uses_b = true; has_value = false; action = λ pc word a b. branch_if (is_less_signed a b) pc word }
 
 abbrev pub bge : TableRow
-bge = record { number = 7; name = codes "BGE"; mask = 0x707f; value = 0x5063; group = Branch; action = λ pc word a b. branch_if (not (is_less_signed a b)) pc word }
+bge = record { number = 7; name = codes "BGE"; mask = 0x707f; value = 0x5063; group = Branch; uses_a = true; uses_b = true; has_value = false; action = λ pc word a b. branch_if (not (is_less_signed a b)) pc word }
 
 abbrev pub bltu : TableRow
-bltu = record { number = 8; name = codes "BLTU"; mask = 0x707f; value = 0x6063; group = Branch; action = λ pc word a b. branch_if (ltb a b) pc word }
+bltu = record { number = 8; name = codes "BLTU"; mask = 0x707f; value = 0x6063; group = Branch; uses_a = true; uses_b = true; has_value = false; action = λ pc word a b. branch_if (ltb a b) pc word }
 
 abbrev pub bgeu : TableRow
-bgeu = record { number = 9; name = codes "BGEU"; mask = 0x707f; value = 0x7063; group = Branch; action = λ pc word a b. branch_if (not (ltb a b)) pc word }
+bgeu = record { number = 9; name = codes "BGEU"; mask = 0x707f; value = 0x7063; group = Branch; uses_a = true; uses_b = true; has_value = false; action = λ pc word a b. branch_if (not (ltb a b)) pc word }
 
 abbrev pub lb : TableRow
-lb = record { number = 10; name = codes "LB"; mask = 0x707f; value = 0x3; group = Load; action = λ pc word a b. load_from 1 true word a }
+lb = record { number = 10; name = codes "LB"; mask = 0x707f; value = 0x3; group = Load; uses_a = true; uses_b = false; has_value = true; action = λ pc word a b. load_from 1 true word a }
 
 abbrev pub lh : TableRow
-lh = record { number = 11; name = codes "LH"; mask = 0x707f; value = 0x1003; group = Load; action = λ pc word a b. load_from 2 true word a }
+lh = record { number = 11; name = codes "LH"; mask = 0x707f; value = 0x1003; group = Load; uses_a = true; uses_b = false; has_value = true; action = λ pc word a b. load_from 2 true word a }
 
 abbrev pub lw : TableRow
-lw = record { number = 12; name = codes "LW"; mask = 0x707f; value = 0x2003; group = Load; action = λ pc word a b. load_from 4 false word a }
+lw = record { number = 12; name = codes "LW"; mask = 0x707f; value = 0x2003; group = Load; uses_a = true; uses_b = false; has_value = true; action = λ pc word a b. load_from 4 false word a }
 
 abbrev pub lbu : TableRow
-lbu = record { number = 13; name = codes "LBU"; mask = 0x707f; value = 0x4003; group = Load; action = λ pc word a b. load_from 1 false word a }
+lbu = record { number = 13; name = codes "LBU"; mask = 0x707f; value = 0x4003; group = Load; uses_a = true; uses_b = false; has_value = true; action = λ pc word a b. load_from 1 false word a }
 
 abbrev pub lhu : TableRow
-lhu = record { number = 14; name = codes "LHU"; mask = 0x707f; value = 0x5003; group = Load; action = λ pc word a b. load_from 2 false word a }
+lhu = record { number = 14; name = codes "LHU"; mask = 0x707f; value = 0x5003; group = Load; uses_a = true; uses_b = false; has_value = true; action = λ pc word a b. load_from 2 false word a }
 
 abbrev pub sb : TableRow
-sb = record { number = 15; name = codes "SB"; mask = 0x707f; value = 0x23; group = Store; action = λ pc word a b. store_to 1 word a b }
+sb = record { number = 15; name = codes "SB"; mask = 0x707f; value = 0x23; group = Store; uses_a = true; uses_b = true; has_value = false; action = λ pc word a b. store_to 1 word a b }
 
 abbrev pub sh : TableRow
-sh = record { number = 16; name = codes "SH"; mask = 0x707f; value = 0x1023; group = Store; action = λ pc word a b. store_to 2 word a b }
+sh = record { number = 16; name = codes "SH"; mask = 0x707f; value = 0x1023; group = Store; uses_a = true; uses_b = true; has_value = false; action = λ pc word a b. store_to 2 word a b }
 
 abbrev pub sw : TableRow
-sw = record { number = 17; name = codes "SW"; mask = 0x707f; value = 0x2023; group = Store; action = λ pc word a b. store_to 4 word a b }
+sw = record { number = 17; name = codes "SW"; mask = 0x707f; value = 0x2023; group = Store; uses_a = true; uses_b = true; has_value = false; action = λ pc word a b. store_to 4 word a b }
 
 abbrev pub addi : TableRow
-addi = record { number = 18; name = codes "ADDI"; mask = 0x707f; value = 0x13; group = Alu; action = λ pc word a b. Computes (add_of 32 a (imm_i word)) }
+addi = record { number = 18; name = codes "ADDI"; mask = 0x707f; value = 0x13; group = Alu; uses_a = true; uses_b = false; has_value = true; action = λ pc word a b. Computes (add_of 32 a (imm_i word)) }
 
 abbrev pub slti : TableRow
-slti = record { number = 19; name = codes "SLTI"; mask = 0x707f; value = 0x2013; group = Alu; action = λ pc word a b. Computes (one_if (is_less_signed a (imm_i word))) }
+slti = record { number = 19; name = codes "SLTI"; mask = 0x707f; value = 0x2013; group = Alu; uses_a = true; uses_b = false; has_value = true; action = λ pc word a b. Computes (one_if (is_less_signed a (imm_i word))) }
 
 abbrev pub sltiu : TableRow
-sltiu = record { number = 20; name = codes "SLTIU"; mask = 0x707f; value = 0x3013; group = Alu; action = λ pc word a b. Computes (one_if (ltb a (imm_i word))) }
+sltiu = record { number = 20; name = codes "SLTIU"; mask = 0x707f; value = 0x3013; group = Alu; uses_a = true; uses_b = false; has_value = true; action = λ pc word a b. Computes (one_if (ltb a (imm_i word))) }
 
 abbrev pub xori : TableRow
-xori = record { number = 21; name = codes "XORI"; mask = 0x707f; value = 0x4013; group = Alu; action = λ pc word a b. Computes (bit_xor a (imm_i word)) }
+xori = record { number = 21; name = codes "XORI"; mask = 0x707f; value = 0x4013; group = Alu; uses_a = true; uses_b = false; has_value = true; action = λ pc word a b. Computes (bit_xor a (imm_i word)) }
 
 abbrev pub ori : TableRow
-ori = record { number = 22; name = codes "ORI"; mask = 0x707f; value = 0x6013; group = Alu; action = λ pc word a b. Computes (bit_or a (imm_i word)) }
+ori = record { number = 22; name = codes "ORI"; mask = 0x707f; value = 0x6013; group = Alu; uses_a = true; uses_b = false; has_value = true; action = λ pc word a b. Computes (bit_or a (imm_i word)) }
 
 abbrev pub andi : TableRow
-andi = record { number = 23; name = codes "ANDI"; mask = 0x707f; value = 0x7013; group = Alu; action = λ pc word a b. Computes (bit_and a (imm_i word)) }
+andi = record { number = 23; name = codes "ANDI"; mask = 0x707f; value = 0x7013; group = Alu; uses_a = true; uses_b = false; has_value = true; action = λ pc word a b. Computes (bit_and a (imm_i word)) }
 
 abbrev pub slli : TableRow
-slli = record { number = 24; name = codes "SLLI"; mask = 0xfe00707f; value = 0x1013; group = Shift; action = λ pc word a b. Computes (shift_left a (rs2_of word)) }
+slli = record { number = 24; name = codes "SLLI"; mask = 0xfe00707f; value = 0x1013; group = Shift; uses_a = true; uses_b = false; has_value = true; action = λ pc word a b. Computes (shift_left a (rs2_of word)) }
 
 abbrev pub srli : TableRow
-srli = record { number = 25; name = codes "SRLI"; mask = 0xfe00707f; value = 0x5013; group = Shift; action = λ pc word a b. Computes (shift_right a (rs2_of word)) }
+srli = record { number = 25; name = codes "SRLI"; mask = 0xfe00707f; value = 0x5013; group = Shift; uses_a = true; uses_b = false; has_value = true; action = λ pc word a b. Computes (shift_right a (rs2_of word)) }
 
 abbrev pub srai : TableRow
-srai = record { number = 26; name = codes "SRAI"; mask = 0xfe00707f; value = 0x40005013; group = Shift; action = λ pc word a b. Computes (shift_right_signed a (rs2_of word)) }
+srai = record { number = 26; name = codes "SRAI"; mask = 0xfe00707f; value = 0x40005013; group = Shift; uses_a = true; uses_b = false; has_value = true; action = λ pc word a b. Computes (shift_right_signed a (rs2_of word)) }
 
 abbrev pub add : TableRow
-add = record { number = 27; name = codes "ADD"; mask = 0xfe00707f; value = 0x33; group = Alu; action = λ pc word a b. Computes (add_of 32 a b) }
+add = record { number = 27; name = codes "ADD"; mask = 0xfe00707f; value = 0x33; group = Alu; uses_a = true; uses_b = true; has_value = true; action = λ pc word a b. Computes (add_of 32 a b) }
 
 abbrev pub sub : TableRow
-sub = record { number = 28; name = codes "SUB"; mask = 0xfe00707f; value = 0x40000033; group = Alu; action = λ pc word a b. Computes (sub_of 32 a b) }
+sub = record { number = 28; name = codes "SUB"; mask = 0xfe00707f; value = 0x40000033; group = Alu; uses_a = true; uses_b = true; has_value = true; action = λ pc word a b. Computes (sub_of 32 a b) }
 
 abbrev pub sll : TableRow
-sll = record { number = 29; name = codes "SLL"; mask = 0xfe00707f; value = 0x1033; group = Shift; action = λ pc word a b. Computes (shift_left a (amount_of b)) }
+sll = record { number = 29; name = codes "SLL"; mask = 0xfe00707f; value = 0x1033; group = Shift; uses_a = true; uses_b = true; has_value = true; action = λ pc word a b. Computes (shift_left a (amount_of b)) }
 
 abbrev pub slt : TableRow
-slt = record { number = 30; name = codes "SLT"; mask = 0xfe00707f; value = 0x2033; group = Alu; action = λ pc word a b. Computes (one_if (is_less_signed a b)) }
+slt = record { number = 30; name = codes "SLT"; mask = 0xfe00707f; value = 0x2033; group = Alu; uses_a = true; uses_b = true; has_value = true; action = λ pc word a b. Computes (one_if (is_less_signed a b)) }
 
 abbrev pub sltu : TableRow
-sltu = record { number = 31; name = codes "SLTU"; mask = 0xfe00707f; value = 0x3033; group = Alu; action = λ pc word a b. Computes (one_if (ltb a b)) }
+sltu = record { number = 31; name = codes "SLTU"; mask = 0xfe00707f; value = 0x3033; group = Alu; uses_a = true; uses_b = true; has_value = true; action = λ pc word a b. Computes (one_if (ltb a b)) }
 
 abbrev pub xor : TableRow
-xor = record { number = 32; name = codes "XOR"; mask = 0xfe00707f; value = 0x4033; group = Alu; action = λ pc word a b. Computes (bit_xor a b) }
+xor = record { number = 32; name = codes "XOR"; mask = 0xfe00707f; value = 0x4033; group = Alu; uses_a = true; uses_b = true; has_value = true; action = λ pc word a b. Computes (bit_xor a b) }
 
 abbrev pub srl : TableRow
-srl = record { number = 33; name = codes "SRL"; mask = 0xfe00707f; value = 0x5033; group = Shift; action = λ pc word a b. Computes (shift_right a (amount_of b)) }
+srl = record { number = 33; name = codes "SRL"; mask = 0xfe00707f; value = 0x5033; group = Shift; uses_a = true; uses_b = true; has_value = true; action = λ pc word a b. Computes (shift_right a (amount_of b)) }
 
 abbrev pub sra : TableRow
-sra = record { number = 34; name = codes "SRA"; mask = 0xfe00707f; value = 0x40005033; group = Shift; action = λ pc word a b. Computes (shift_right_signed a (amount_of b)) }
+sra = record { number = 34; name = codes "SRA"; mask = 0xfe00707f; value = 0x40005033; group = Shift; uses_a = true; uses_b = true; has_value = true; action = λ pc word a b. Computes (shift_right_signed a (amount_of b)) }
 
 abbrev pub or : TableRow
-or = record { number = 35; name = codes "OR"; mask = 0xfe00707f; value = 0x6033; group = Alu; action = λ pc word a b. Computes (bit_or a b) }
+or = record { number = 35; name = codes "OR"; mask = 0xfe00707f; value = 0x6033; group = Alu; uses_a = true; uses_b = true; has_value = true; action = λ pc word a b. Computes (bit_or a b) }
 
 abbrev pub and : TableRow
-and = record { number = 36; name = codes "AND"; mask = 0xfe00707f; value = 0x7033; group = Alu; action = λ pc word a b. Computes (bit_and a b) }
+and = record { number = 36; name = codes "AND"; mask = 0xfe00707f; value = 0x7033; group = Alu; uses_a = true; uses_b = true; has_value = true; action = λ pc word a b. Computes (bit_and a b) }
 
 abbrev pub fence : TableRow
-fence = record { number = 37; name = codes "FENCE"; mask = 0x707f; value = 0xf; group = Fence; action = λ pc word a b. Fences }
+fence = record { number = 37; name = codes "FENCE"; mask = 0x707f; value = 0xf; group = Fence; uses_a = false; uses_b = false; has_value = false; action = λ pc word a b. Fences }
 
 abbrev pub ecall : TableRow
-ecall = record { number = 38; name = codes "ECALL"; mask = 0xffffffff; value = 0x73; group = System; action = λ pc word a b. CallsEnvironment }
+ecall = record { number = 38; name = codes "ECALL"; mask = 0xffffffff; value = 0x73; group = System; uses_a = false; uses_b = false; has_value = false; action = λ pc word a b. CallsEnvironment }
 
 abbrev pub ebreak : TableRow
-ebreak = record { number = 39; name = codes "EBREAK"; mask = 0xffffffff; value = 0x100073; group = System; action = λ pc word a b. Breaks }
+ebreak = record { number = 39; name = codes "EBREAK"; mask = 0xffffffff; value = 0x100073; group = System; uses_a = false; uses_b = false; has_value = false; action = λ pc word a b. Breaks }
 
 -- ---- Zifencei
 
 abbrev pub fence_i : TableRow
-fence_i = record { number = 40; name = codes "FENCE.I"; mask = 0x707f; value = 0x100f; group = Fence; action = λ pc word a b. FencesFetches }
+fence_i = record { number = 40; name = codes "FENCE.I"; mask = 0x707f; value = 0x100f; group = Fence; uses_a = false; uses_b = false; has_value = false; action = λ pc word a b. FencesFetches }
 
 -- ---- M: multiplication and division
 
 abbrev pub mul : TableRow
-mul = record { number = 41; name = codes "MUL"; mask = 0xfe00707f; value = 0x2000033; group = MulDiv; action = λ pc word a b. Computes (product_low a b) }
+mul = record { number = 41; name = codes "MUL"; mask = 0xfe00707f; value = 0x2000033; group = MulDiv; uses_a = true; uses_b = true; has_value = true; action = λ pc word a b. Computes (product_low a b) }
 
 abbrev pub mulh : TableRow
-mulh = record { number = 42; name = codes "MULH"; mask = 0xfe00707f; value = 0x2001033; group = MulDiv; action = λ pc word a b. Computes (product_high_signed a b) }
+mulh = record { number = 42; name = codes "MULH"; mask = 0xfe00707f; value = 0x2001033; group = MulDiv; uses_a = true; uses_b = true; has_value = true; action = λ pc word a b. Computes (product_high_signed a b) }
 
 abbrev pub mulhsu : TableRow
-mulhsu = record { number = 43; name = codes "MULHSU"; mask = 0xfe00707f; value = 0x2002033; group = MulDiv; action = λ pc word a b. Computes (product_high_mixed a b) }
+mulhsu = record { number = 43; name = codes "MULHSU"; mask = 0xfe00707f; value = 0x2002033; group = MulDiv; uses_a = true; uses_b = true; has_value = true; action = λ pc word a b. Computes (product_high_mixed a b) }
 
 abbrev pub mulhu : TableRow
-mulhu = record { number = 44; name = codes "MULHU"; mask = 0xfe00707f; value = 0x2003033; group = MulDiv; action = λ pc word a b. Computes (product_high_unsigned a b) }
+mulhu = record { number = 44; name = codes "MULHU"; mask = 0xfe00707f; value = 0x2003033; group = MulDiv; uses_a = true; uses_b = true; has_value = true; action = λ pc word a b. Computes (product_high_unsigned a b) }
 
 abbrev pub div : TableRow
-div = record { number = 45; name = codes "DIV"; mask = 0xfe00707f; value = 0x2004033; group = MulDiv; action = λ pc word a b. Computes (quotient_signed a b) }
+div = record { number = 45; name = codes "DIV"; mask = 0xfe00707f; value = 0x2004033; group = MulDiv; uses_a = true; uses_b = true; has_value = true; action = λ pc word a b. Computes (quotient_signed a b) }
 
 abbrev pub divu : TableRow
-divu = record { number = 46; name = codes "DIVU"; mask = 0xfe00707f; value = 0x2005033; group = MulDiv; action = λ pc word a b. Computes (quotient_unsigned a b) }
+divu = record { number = 46; name = codes "DIVU"; mask = 0xfe00707f; value = 0x2005033; group = MulDiv; uses_a = true; uses_b = true; has_value = true; action = λ pc word a b. Computes (quotient_unsigned a b) }
 
 abbrev pub rem : TableRow
-rem = record { number = 47; name = codes "REM"; mask = 0xfe00707f; value = 0x2006033; group = MulDiv; action = λ pc word a b. Computes (remainder_signed a b) }
+rem = record { number = 47; name = codes "REM"; mask = 0xfe00707f; value = 0x2006033; group = MulDiv; uses_a = true; uses_b = true; has_value = true; action = λ pc word a b. Computes (remainder_signed a b) }
 
 abbrev pub remu : TableRow
-remu = record { number = 48; name = codes "REMU"; mask = 0xfe00707f; value = 0x2007033; group = MulDiv; action = λ pc word a b. Computes (remainder_unsigned a b) }
+remu = record { number = 48; name = codes "REMU"; mask = 0xfe00707f; value = 0x2007033; group = MulDiv; uses_a = true; uses_b = true; has_value = true; action = λ pc word a b. Computes (remainder_unsigned a b) }
 
 -- ---- Zicsr
 
 abbrev pub csrrw : TableRow
-csrrw = record { number = 49; name = codes "CSRRW"; mask = 0x707f; value = 0x1073; group = System; action = λ pc word a b. csr_write_of word a }
+csrrw = record { number = 49; name = codes "CSRRW"; mask = 0x707f; value = 0x1073; group = System; uses_a = true; uses_b = false; has_value = true; action = λ pc word a b. csr_write_of word a }
 
 abbrev pub csrrs : TableRow
-csrrs = record { number = 50; name = codes "CSRRS"; mask = 0x707f; value = 0x2073; group = System; action = λ pc word a b. csr_change_of Sets word a }
+csrrs = record { number = 50; name = codes "CSRRS"; mask = 0x707f; value = 0x2073; group = System; uses_a = true; uses_b = false; has_value = true; action = λ pc word a b. csr_change_of Sets word a }
 
 abbrev pub csrrc : TableRow
-csrrc = record { number = 51; name = codes "CSRRC"; mask = 0x707f; value = 0x3073; group = System; action = λ pc word a b. csr_change_of Clears word a }
+csrrc = record { number = 51; name = codes "CSRRC"; mask = 0x707f; value = 0x3073; group = System; uses_a = true; uses_b = false; has_value = true; action = λ pc word a b. csr_change_of Clears word a }
 
 abbrev pub csrrwi : TableRow
-csrrwi = record { number = 52; name = codes "CSRRWI"; mask = 0x707f; value = 0x5073; group = System; action = λ pc word a b. csr_write_of word (rs1_of word) }
+csrrwi = record { number = 52; name = codes "CSRRWI"; mask = 0x707f; value = 0x5073; group = System; uses_a = false; uses_b = false; has_value = true; action = λ pc word a b. csr_write_of word (rs1_of word) }
 
 abbrev pub csrrsi : TableRow
-csrrsi = record { number = 53; name = codes "CSRRSI"; mask = 0x707f; value = 0x6073; group = System; action = λ pc word a b. csr_change_of Sets word (rs1_of word) }
+csrrsi = record { number = 53; name = codes "CSRRSI"; mask = 0x707f; value = 0x6073; group = System; uses_a = false; uses_b = false; has_value = true; action = λ pc word a b. csr_change_of Sets word (rs1_of word) }
 
 abbrev pub csrrci : TableRow
-csrrci = record { number = 54; name = codes "CSRRCI"; mask = 0x707f; value = 0x7073; group = System; action = λ pc word a b. csr_change_of Clears word (rs1_of word) }
+csrrci = record { number = 54; name = codes "CSRRCI"; mask = 0x707f; value = 0x7073; group = System; uses_a = false; uses_b = false; has_value = true; action = λ pc word a b. csr_change_of Clears word (rs1_of word) }
 
 -- ---- machine mode
 
 abbrev pub mret : TableRow
-mret = record { number = 55; name = codes "MRET"; mask = 0xffffffff; value = 0x30200073; group = System; action = λ pc word a b. Returns }
+mret = record { number = 55; name = codes "MRET"; mask = 0xffffffff; value = 0x30200073; group = System; uses_a = false; uses_b = false; has_value = false; action = λ pc word a b. Returns }
 
 abbrev pub wfi : TableRow
-wfi = record { number = 56; name = codes "WFI"; mask = 0xffffffff; value = 0x10500073; group = System; action = λ pc word a b. Waits }
+wfi = record { number = 56; name = codes "WFI"; mask = 0xffffffff; value = 0x10500073; group = System; uses_a = false; uses_b = false; has_value = false; action = λ pc word a b. Waits }
 
 -- the table, by number
 abbrev pub table : List TableRow

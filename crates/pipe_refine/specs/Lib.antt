@@ -1,3 +1,2 @@
-pub mod Follows
 pub mod Refines
 pub mod CoreText

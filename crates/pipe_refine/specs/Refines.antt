@@ -9,7 +9,7 @@ use Rattle.verilog_mean.specs.Plain.{Plain}
 use Rattle.verilog_mean.specs.Cycle.{State}
 use Rattle.verilog_mean.specs.Run.{Inputs, trace_of, IsInput, IsStart, AllZero}
 use Rattle.verilog_mean.specs.CorePorts.{HasCorePorts}
-use Rattle.pipe_refine.specs.Follows.{Follows}
+use Rattle.isa_follow.specs.Follows.{Follows}
 
 -- a further claim on a run that follows the machine, of the same machine run
 abbrev pub Claim : Set → Type 1
