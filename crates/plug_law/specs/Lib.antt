@@ -1,0 +1,13 @@
+pub mod Table
+pub mod Outcome
+pub mod Past
+pub mod Fetch
+pub mod Depth
+pub mod Cache
+pub mod Predict
+pub mod Exec
+pub mod System
+pub mod Decode
+pub mod RegFile
+pub mod Hazard
+pub mod Pipeline
