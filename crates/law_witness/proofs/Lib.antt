@@ -1,0 +1,10 @@
+pub mod Parts
+pub mod Whole
+pub mod Fetches
+pub mod Actions
+pub mod Units
+pub mod All
+pub mod Streams
+pub mod Runs
+pub mod Small
+pub mod SmallLaws

@@ -1,0 +1,4 @@
+pub mod Cores
+pub mod Met
+pub mod Program
+pub mod Stream
