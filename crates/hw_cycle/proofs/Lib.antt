@@ -6,4 +6,3 @@ pub mod Tops
 pub mod Steps
 pub mod States
 pub mod Commits
-pub mod Samples

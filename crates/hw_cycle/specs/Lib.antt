@@ -3,4 +3,3 @@ pub mod Inputs
 pub mod Evaluate
 pub mod Levels
 pub mod Commit
-pub mod Sample

@@ -16,6 +16,3 @@ mod value;
 
 pub use cycle::Cycle;
 pub use law::holds;
-
-#[cfg(test)]
-mod tests;

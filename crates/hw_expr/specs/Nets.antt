@@ -3,6 +3,7 @@ use Rattle.std.specs.Prelude.{◌≡◌, ℕ, ◌<◌, ◌≤◌, length}
 use Rattle.hw_pool.specs.Nodes.{PoolValue, node_at}
 use Rattle.hw_pool.specs.Trees.{tree_of, width_of}
 use Rattle.hw_pool.specs.Meaning.{Env, value, Fits}
+use Rattle.hw_pool.specs.Scope.{Scope, Takes}
 use Rattle.hw_expr.specs.declared.net.Net.{Net}
 
 -- A net names a live node of its width and its level, and the widths in the node's tree fit.
@@ -18,3 +19,8 @@ pub record IsNet (pool : PoolValue) (net : Net) : Type 0 where
 -- the value of a net's tree, for values of the inputs, forward wires, registers and arrays
 unfoldable pub net_value : Env → PoolValue → Net → ℕ
 net_value env pool net = value env (tree_of pool.nodes net.id.0)
+
+-- a net takes from outside only what a scope has, and no forward wire above its level
+pub record InScope (s : Scope) (pool : PoolValue) (net : Net) : Type 0 where
+  pub is : IsNet pool net
+  pub takes : Takes s net.level (tree_of pool.nodes net.id.0)

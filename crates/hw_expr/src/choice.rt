@@ -2,7 +2,8 @@ ghost use Rattle.std.specs.Prelude.{◌≡◌, ℕ, ◌+◌, ◌-◌, ◌*◌, �
 ghost use Rattle.core_words.specs.Values.{bits_of, one_if};
 ghost use Rattle.hw_pool.specs.Meaning.{Env};
 ghost use Rattle.hw_pool.specs.Frame.{Adds, AddsInner};
-ghost use Rattle.hw_expr.specs.Nets.{IsNet, net_value};
+ghost use Rattle.hw_pool.specs.Scope.{Scope};
+ghost use Rattle.hw_expr.specs.Nets.{InScope, IsNet, net_value};
 ghost use Rattle.hw_expr.specs.Lists.{AreNets, greatest, hot_of, net_at};
 
 use crate::{Net, cat, eq, lit, mux, slice};
@@ -17,10 +18,12 @@ pub fn mux_tree(pool: &mut Pool, index: Net, list: &[Net]) -> Net
     requires items { length list.now ≡ 2 ^ index.width }
     ensures value { (env : Env) → net_value env pool.old index < 2 ^ index.width → net_value env pool.new result ≡ net_value env pool.old (net_at list.now (net_value env pool.old index)) }
     ensures net { IsNet pool.new result }
+    ensures scope { (s : Scope) → InScope s pool.old index → ((k : ℕ) → k < length list.now → InScope s pool.old (net_at list.now k)) → InScope s pool.new result }
     ensures width { result.width ≡ (net_at list.now 0).width }
     ensures level { result.level ≡ max index.level (greatest list.now) }
     ensures adds { Adds pool.old pool.new (2 * length list.now) }
     ensures inner { AddsInner pool.old.nodes pool.new.nodes }
+    ensures kept { (s : Scope) (n : Net) → InScope s pool.old n → InScope s pool.new n }
     ensures nets { (n : Net) → IsNet pool.old n → IsNet pool.new n }
     ensures values { (env : Env) (n : Net) → IsNet pool.old n → net_value env pool.new n ≡ net_value env pool.old n }
 {
@@ -38,11 +41,13 @@ fn select(pool: &mut Pool, index: Net, bits: u32, list: &[Net]) -> Net
     requires items { length list.now ≡ 2 ^ bits }
     ensures value { (env : Env) → net_value env pool.new result ≡ net_value env pool.old (net_at list.now (net_value env pool.old index % 2 ^ bits)) }
     ensures net { IsNet pool.new result }
+    ensures scope { (s : Scope) → InScope s pool.old index → ((k : ℕ) → k < length list.now → InScope s pool.old (net_at list.now k)) → InScope s pool.new result }
     ensures width { result.width ≡ (net_at list.now 0).width }
     ensures leaf { bits ≡ 0 → result.level ≡ greatest list.now }
     ensures level { 1 ≤ bits → result.level ≡ max index.level (greatest list.now) }
     ensures adds { Adds pool.old pool.new (2 * length list.now - 2) }
     ensures inner { AddsInner pool.old.nodes pool.new.nodes }
+    ensures kept { (s : Scope) (n : Net) → InScope s pool.old n → InScope s pool.new n }
     ensures nets { (n : Net) → IsNet pool.old n → IsNet pool.new n }
     ensures values { (env : Env) (n : Net) → IsNet pool.old n → net_value env pool.new n ≡ net_value env pool.old n }
 {
@@ -65,10 +70,12 @@ pub fn one_hot(pool: &mut Pool, a: Net) -> Net
     ensures bits { (env : Env) (k : ℕ) → k < 2 ^ a.width → bits_of (net_value env pool.new result) k k ≡ one_if (eqb (net_value env pool.old a) k) }
     ensures value { (env : Env) → net_value env pool.new result ≡ hot_of (2 ^ a.width) (net_value env pool.old a) }
     ensures net { IsNet pool.new result }
+    ensures scope { (s : Scope) → InScope s pool.old a → InScope s pool.new result }
     ensures width { result.width ≡ 2 ^ a.width }
     ensures level { result.level ≡ a.level }
     ensures adds { Adds pool.old pool.new (3 * 2 ^ a.width) }
     ensures inner { AddsInner pool.old.nodes pool.new.nodes }
+    ensures kept { (s : Scope) (n : Net) → InScope s pool.old n → InScope s pool.new n }
     ensures nets { (n : Net) → IsNet pool.old n → IsNet pool.new n }
     ensures values { (env : Env) (n : Net) → IsNet pool.old n → net_value env pool.new n ≡ net_value env pool.old n }
 {
@@ -85,10 +92,12 @@ fn hot(pool: &mut Pool, a: Net, n: u32) -> Net
     requires numbers { n ≤ 2 ^ a.width }
     ensures value { (env : Env) → net_value env pool.new result ≡ hot_of n (net_value env pool.old a) }
     ensures net { IsNet pool.new result }
+    ensures scope { (s : Scope) → InScope s pool.old a → InScope s pool.new result }
     ensures width { result.width ≡ n }
     ensures level { result.level ≡ a.level }
     ensures adds { Adds pool.old pool.new (3 * n) }
     ensures inner { AddsInner pool.old.nodes pool.new.nodes }
+    ensures kept { (s : Scope) (n : Net) → InScope s pool.old n → InScope s pool.new n }
     ensures nets { (n : Net) → IsNet pool.old n → IsNet pool.new n }
     ensures values { (env : Env) (n : Net) → IsNet pool.old n → net_value env pool.new n ≡ net_value env pool.old n }
 {

@@ -4,13 +4,14 @@ ghost use Rattle.hw_pool.specs.Nodes.{AreChildren, IsPool, IsWidth, node_at};
 ghost use Rattle.hw_pool.specs.Trees.{of_op, tree_of};
 ghost use Rattle.hw_pool.specs.Meaning.{Env, Fits, value};
 ghost use Rattle.hw_pool.specs.Frame.{Adds, AddsInner, IsInner};
-ghost use Rattle.hw_expr.specs.Nets.{IsNet, net_value};
+ghost use Rattle.hw_pool.specs.Scope.{Scope, Takes};
+ghost use Rattle.hw_expr.specs.Nets.{InScope, IsNet, net_value};
 
 use crate::Net;
 use hw_pool::{Node, Op, Pool};
 
 /// Adds a node of an operator whose operands are live and have the widths that it needs.
-#[tactic(auto, using(crate::proofs::Nets::still_value, hw_pool::proofs::Frames::inner_one), unfolding(crate::specs::Nets::net_value))]
+#[tactic(auto, using(crate::proofs::Nets::still_value, crate::proofs::Scopes::still_scope, crate::proofs::Scopes::tree_scope, hw_pool::proofs::Frames::inner_one), unfolding(crate::specs::Nets::net_value))]
 pub fn put(pool: &mut Pool, op: Op, width: u32, level: u32) -> Net
     requires spare { 1 ≤ pool.old.spare }
     requires width { IsWidth width }
@@ -18,14 +19,16 @@ pub fn put(pool: &mut Pool, op: Op, width: u32, level: u32) -> Net
     requires fits { Fits (of_op (tree_of pool.old.nodes) width op) }
     ensures value { (env : Env) → net_value env pool.new result ≡ value env (of_op (tree_of pool.old.nodes) width op) }
     ensures tree { tree_of pool.new.nodes result.id.0 ≡ of_op (tree_of pool.old.nodes) width op }
-    ensures fresh { result.id.0 ≡ length pool.old.nodes }
+    ensures grown { length pool.old.nodes < length pool.new.nodes → result.id.0 ≡ length pool.old.nodes }
     ensures node { node_at pool.new.nodes result.id.0 ≡ record { op = op; width = width; level = level } }
     ensures pool { IsPool pool.new.nodes }
     ensures net { IsNet pool.new result }
+    ensures scope { (s : Scope) → Takes s level (of_op (tree_of pool.old.nodes) width op) → InScope s pool.new result }
     ensures width { result.width ≡ width }
     ensures level { result.level ≡ level }
     ensures adds { Adds pool.old pool.new 1 }
     ensures inner { IsInner op → AddsInner pool.old.nodes pool.new.nodes }
+    ensures kept { (s : Scope) (n : Net) → InScope s pool.old n → InScope s pool.new n }
     ensures nets { (n : Net) → IsNet pool.old n → IsNet pool.new n }
     ensures values { (env : Env) (n : Net) → IsNet pool.old n → net_value env pool.new n ≡ net_value env pool.old n }
 {
@@ -34,17 +37,19 @@ pub fn put(pool: &mut Pool, op: Op, width: u32, level: u32) -> Net
 }
 
 /// This number, of this width.
-#[tactic(auto, using(crate::proofs::Nets::still_value), unfolding(crate::specs::Nets::net_value))]
+#[tactic(auto, using(crate::proofs::Nets::still_value, crate::proofs::Scopes::still_scope, crate::proofs::Scopes::takes_at), unfolding(crate::specs::Nets::net_value))]
 pub fn lit(pool: &mut Pool, width: u32, value: u64) -> Net
     requires spare { 1 ≤ pool.old.spare }
     requires width { IsWidth width }
     requires within { value < 2 ^ width }
     ensures value { (env : Env) → net_value env pool.new result ≡ value }
     ensures net { IsNet pool.new result }
+    ensures scope { (s : Scope) → InScope s pool.new result }
     ensures width { result.width ≡ width }
     ensures level { result.level ≡ 0 }
     ensures adds { Adds pool.old pool.new 1 }
     ensures inner { AddsInner pool.old.nodes pool.new.nodes }
+    ensures kept { (s : Scope) (n : Net) → InScope s pool.old n → InScope s pool.new n }
     ensures nets { (n : Net) → IsNet pool.old n → IsNet pool.new n }
     ensures values { (env : Env) (n : Net) → IsNet pool.old n → net_value env pool.new n ≡ net_value env pool.old n }
 {
@@ -52,16 +57,18 @@ pub fn lit(pool: &mut Pool, width: u32, value: u64) -> Net
 }
 
 /// Each bit of `a` turned over.
-#[tactic(auto, using(crate::proofs::Nets::still_value), unfolding(crate::specs::Nets::net_value))]
+#[tactic(auto, using(crate::proofs::Nets::still_value, crate::proofs::Scopes::still_scope, crate::proofs::Scopes::takes_at), unfolding(crate::specs::Nets::net_value))]
 pub fn not(pool: &mut Pool, a: Net) -> Net
     requires spare { 1 ≤ pool.old.spare }
     requires a { IsNet pool.old a }
     ensures value { (env : Env) → net_value env pool.new result ≡ not_of a.width (net_value env pool.old a) }
     ensures net { IsNet pool.new result }
+    ensures scope { (s : Scope) → InScope s pool.old a → InScope s pool.new result }
     ensures width { result.width ≡ a.width }
     ensures level { result.level ≡ a.level }
     ensures adds { Adds pool.old pool.new 1 }
     ensures inner { AddsInner pool.old.nodes pool.new.nodes }
+    ensures kept { (s : Scope) (n : Net) → InScope s pool.old n → InScope s pool.new n }
     ensures nets { (n : Net) → IsNet pool.old n → IsNet pool.new n }
     ensures values { (env : Env) (n : Net) → IsNet pool.old n → net_value env pool.new n ≡ net_value env pool.old n }
 {
@@ -69,7 +76,7 @@ pub fn not(pool: &mut Pool, a: Net) -> Net
 }
 
 /// Bitwise "and" of nets of one width.
-#[tactic(auto, using(crate::proofs::Nets::still_value), unfolding(crate::specs::Nets::net_value))]
+#[tactic(auto, using(crate::proofs::Nets::still_value, crate::proofs::Scopes::still_scope, crate::proofs::Scopes::takes_at), unfolding(crate::specs::Nets::net_value))]
 pub fn and(pool: &mut Pool, a: Net, b: Net) -> Net
     requires spare { 1 ≤ pool.old.spare }
     requires a { IsNet pool.old a }
@@ -77,10 +84,12 @@ pub fn and(pool: &mut Pool, a: Net, b: Net) -> Net
     requires equal { b.width ≡ a.width }
     ensures value { (env : Env) → net_value env pool.new result ≡ bit_and (net_value env pool.old a) (net_value env pool.old b) }
     ensures net { IsNet pool.new result }
+    ensures scope { (s : Scope) → InScope s pool.old a → InScope s pool.old b → InScope s pool.new result }
     ensures width { result.width ≡ a.width }
     ensures level { result.level ≡ max a.level b.level }
     ensures adds { Adds pool.old pool.new 1 }
     ensures inner { AddsInner pool.old.nodes pool.new.nodes }
+    ensures kept { (s : Scope) (n : Net) → InScope s pool.old n → InScope s pool.new n }
     ensures nets { (n : Net) → IsNet pool.old n → IsNet pool.new n }
     ensures values { (env : Env) (n : Net) → IsNet pool.old n → net_value env pool.new n ≡ net_value env pool.old n }
 {
@@ -88,7 +97,7 @@ pub fn and(pool: &mut Pool, a: Net, b: Net) -> Net
 }
 
 /// Bitwise "or" of nets of one width.
-#[tactic(auto, using(crate::proofs::Nets::still_value), unfolding(crate::specs::Nets::net_value))]
+#[tactic(auto, using(crate::proofs::Nets::still_value, crate::proofs::Scopes::still_scope, crate::proofs::Scopes::takes_at), unfolding(crate::specs::Nets::net_value))]
 pub fn or(pool: &mut Pool, a: Net, b: Net) -> Net
     requires spare { 1 ≤ pool.old.spare }
     requires a { IsNet pool.old a }
@@ -96,10 +105,12 @@ pub fn or(pool: &mut Pool, a: Net, b: Net) -> Net
     requires equal { b.width ≡ a.width }
     ensures value { (env : Env) → net_value env pool.new result ≡ bit_or (net_value env pool.old a) (net_value env pool.old b) }
     ensures net { IsNet pool.new result }
+    ensures scope { (s : Scope) → InScope s pool.old a → InScope s pool.old b → InScope s pool.new result }
     ensures width { result.width ≡ a.width }
     ensures level { result.level ≡ max a.level b.level }
     ensures adds { Adds pool.old pool.new 1 }
     ensures inner { AddsInner pool.old.nodes pool.new.nodes }
+    ensures kept { (s : Scope) (n : Net) → InScope s pool.old n → InScope s pool.new n }
     ensures nets { (n : Net) → IsNet pool.old n → IsNet pool.new n }
     ensures values { (env : Env) (n : Net) → IsNet pool.old n → net_value env pool.new n ≡ net_value env pool.old n }
 {
@@ -107,7 +118,7 @@ pub fn or(pool: &mut Pool, a: Net, b: Net) -> Net
 }
 
 /// Bitwise "exclusive or" of nets of one width.
-#[tactic(auto, using(crate::proofs::Nets::still_value), unfolding(crate::specs::Nets::net_value))]
+#[tactic(auto, using(crate::proofs::Nets::still_value, crate::proofs::Scopes::still_scope, crate::proofs::Scopes::takes_at), unfolding(crate::specs::Nets::net_value))]
 pub fn xor(pool: &mut Pool, a: Net, b: Net) -> Net
     requires spare { 1 ≤ pool.old.spare }
     requires a { IsNet pool.old a }
@@ -115,10 +126,12 @@ pub fn xor(pool: &mut Pool, a: Net, b: Net) -> Net
     requires equal { b.width ≡ a.width }
     ensures value { (env : Env) → net_value env pool.new result ≡ bit_xor (net_value env pool.old a) (net_value env pool.old b) }
     ensures net { IsNet pool.new result }
+    ensures scope { (s : Scope) → InScope s pool.old a → InScope s pool.old b → InScope s pool.new result }
     ensures width { result.width ≡ a.width }
     ensures level { result.level ≡ max a.level b.level }
     ensures adds { Adds pool.old pool.new 1 }
     ensures inner { AddsInner pool.old.nodes pool.new.nodes }
+    ensures kept { (s : Scope) (n : Net) → InScope s pool.old n → InScope s pool.new n }
     ensures nets { (n : Net) → IsNet pool.old n → IsNet pool.new n }
     ensures values { (env : Env) (n : Net) → IsNet pool.old n → net_value env pool.new n ≡ net_value env pool.old n }
 {
@@ -126,7 +139,7 @@ pub fn xor(pool: &mut Pool, a: Net, b: Net) -> Net
 }
 
 /// The sum of nets of one width, modulo 2 ^ the width.
-#[tactic(auto, using(crate::proofs::Nets::still_value), unfolding(crate::specs::Nets::net_value))]
+#[tactic(auto, using(crate::proofs::Nets::still_value, crate::proofs::Scopes::still_scope, crate::proofs::Scopes::takes_at), unfolding(crate::specs::Nets::net_value))]
 pub fn add(pool: &mut Pool, a: Net, b: Net) -> Net
     requires spare { 1 ≤ pool.old.spare }
     requires a { IsNet pool.old a }
@@ -134,10 +147,12 @@ pub fn add(pool: &mut Pool, a: Net, b: Net) -> Net
     requires equal { b.width ≡ a.width }
     ensures value { (env : Env) → net_value env pool.new result ≡ add_of a.width (net_value env pool.old a) (net_value env pool.old b) }
     ensures net { IsNet pool.new result }
+    ensures scope { (s : Scope) → InScope s pool.old a → InScope s pool.old b → InScope s pool.new result }
     ensures width { result.width ≡ a.width }
     ensures level { result.level ≡ max a.level b.level }
     ensures adds { Adds pool.old pool.new 1 }
     ensures inner { AddsInner pool.old.nodes pool.new.nodes }
+    ensures kept { (s : Scope) (n : Net) → InScope s pool.old n → InScope s pool.new n }
     ensures nets { (n : Net) → IsNet pool.old n → IsNet pool.new n }
     ensures values { (env : Env) (n : Net) → IsNet pool.old n → net_value env pool.new n ≡ net_value env pool.old n }
 {
@@ -145,7 +160,7 @@ pub fn add(pool: &mut Pool, a: Net, b: Net) -> Net
 }
 
 /// The difference of nets of one width, modulo 2 ^ the width.
-#[tactic(auto, using(crate::proofs::Nets::still_value), unfolding(crate::specs::Nets::net_value))]
+#[tactic(auto, using(crate::proofs::Nets::still_value, crate::proofs::Scopes::still_scope, crate::proofs::Scopes::takes_at), unfolding(crate::specs::Nets::net_value))]
 pub fn sub(pool: &mut Pool, a: Net, b: Net) -> Net
     requires spare { 1 ≤ pool.old.spare }
     requires a { IsNet pool.old a }
@@ -153,10 +168,12 @@ pub fn sub(pool: &mut Pool, a: Net, b: Net) -> Net
     requires equal { b.width ≡ a.width }
     ensures value { (env : Env) → net_value env pool.new result ≡ sub_of a.width (net_value env pool.old a) (net_value env pool.old b) }
     ensures net { IsNet pool.new result }
+    ensures scope { (s : Scope) → InScope s pool.old a → InScope s pool.old b → InScope s pool.new result }
     ensures width { result.width ≡ a.width }
     ensures level { result.level ≡ max a.level b.level }
     ensures adds { Adds pool.old pool.new 1 }
     ensures inner { AddsInner pool.old.nodes pool.new.nodes }
+    ensures kept { (s : Scope) (n : Net) → InScope s pool.old n → InScope s pool.new n }
     ensures nets { (n : Net) → IsNet pool.old n → IsNet pool.new n }
     ensures values { (env : Env) (n : Net) → IsNet pool.old n → net_value env pool.new n ≡ net_value env pool.old n }
 {
@@ -164,7 +181,7 @@ pub fn sub(pool: &mut Pool, a: Net, b: Net) -> Net
 }
 
 /// One bit: 1 where nets of one width are equal.
-#[tactic(auto, using(crate::proofs::Nets::still_value), unfolding(crate::specs::Nets::net_value))]
+#[tactic(auto, using(crate::proofs::Nets::still_value, crate::proofs::Scopes::still_scope, crate::proofs::Scopes::takes_at), unfolding(crate::specs::Nets::net_value))]
 pub fn eq(pool: &mut Pool, a: Net, b: Net) -> Net
     requires spare { 1 ≤ pool.old.spare }
     requires a { IsNet pool.old a }
@@ -172,10 +189,12 @@ pub fn eq(pool: &mut Pool, a: Net, b: Net) -> Net
     requires equal { b.width ≡ a.width }
     ensures value { (env : Env) → net_value env pool.new result ≡ one_if (eqb (net_value env pool.old a) (net_value env pool.old b)) }
     ensures net { IsNet pool.new result }
+    ensures scope { (s : Scope) → InScope s pool.old a → InScope s pool.old b → InScope s pool.new result }
     ensures width { result.width ≡ 1 }
     ensures level { result.level ≡ max a.level b.level }
     ensures adds { Adds pool.old pool.new 1 }
     ensures inner { AddsInner pool.old.nodes pool.new.nodes }
+    ensures kept { (s : Scope) (n : Net) → InScope s pool.old n → InScope s pool.new n }
     ensures nets { (n : Net) → IsNet pool.old n → IsNet pool.new n }
     ensures values { (env : Env) (n : Net) → IsNet pool.old n → net_value env pool.new n ≡ net_value env pool.old n }
 {
@@ -183,7 +202,7 @@ pub fn eq(pool: &mut Pool, a: Net, b: Net) -> Net
 }
 
 /// One bit: 1 where `a` is less than `b`, a net of its width, as unsigned numbers.
-#[tactic(auto, using(crate::proofs::Nets::still_value), unfolding(crate::specs::Nets::net_value))]
+#[tactic(auto, using(crate::proofs::Nets::still_value, crate::proofs::Scopes::still_scope, crate::proofs::Scopes::takes_at), unfolding(crate::specs::Nets::net_value))]
 pub fn ltu(pool: &mut Pool, a: Net, b: Net) -> Net
     requires spare { 1 ≤ pool.old.spare }
     requires a { IsNet pool.old a }
@@ -191,10 +210,12 @@ pub fn ltu(pool: &mut Pool, a: Net, b: Net) -> Net
     requires equal { b.width ≡ a.width }
     ensures value { (env : Env) → net_value env pool.new result ≡ one_if (ltb (net_value env pool.old a) (net_value env pool.old b)) }
     ensures net { IsNet pool.new result }
+    ensures scope { (s : Scope) → InScope s pool.old a → InScope s pool.old b → InScope s pool.new result }
     ensures width { result.width ≡ 1 }
     ensures level { result.level ≡ max a.level b.level }
     ensures adds { Adds pool.old pool.new 1 }
     ensures inner { AddsInner pool.old.nodes pool.new.nodes }
+    ensures kept { (s : Scope) (n : Net) → InScope s pool.old n → InScope s pool.new n }
     ensures nets { (n : Net) → IsNet pool.old n → IsNet pool.new n }
     ensures values { (env : Env) (n : Net) → IsNet pool.old n → net_value env pool.new n ≡ net_value env pool.old n }
 {
@@ -202,7 +223,7 @@ pub fn ltu(pool: &mut Pool, a: Net, b: Net) -> Net
 }
 
 /// `a` where the one bit `c` is 1, else `b`, a net of the same width.
-#[tactic(auto, using(crate::proofs::Nets::still_value), unfolding(crate::specs::Nets::net_value))]
+#[tactic(auto, using(crate::proofs::Nets::still_value, crate::proofs::Scopes::still_scope, crate::proofs::Scopes::takes_at), unfolding(crate::specs::Nets::net_value))]
 pub fn mux(pool: &mut Pool, c: Net, a: Net, b: Net) -> Net
     requires spare { 1 ≤ pool.old.spare }
     requires c { IsNet pool.old c }
@@ -212,10 +233,12 @@ pub fn mux(pool: &mut Pool, c: Net, a: Net, b: Net) -> Net
     requires equal { b.width ≡ a.width }
     ensures value { (env : Env) → net_value env pool.new result ≡ choose (net_value env pool.old c) (net_value env pool.old a) (net_value env pool.old b) }
     ensures net { IsNet pool.new result }
+    ensures scope { (s : Scope) → InScope s pool.old c → InScope s pool.old a → InScope s pool.old b → InScope s pool.new result }
     ensures width { result.width ≡ a.width }
     ensures level { result.level ≡ max (max c.level a.level) b.level }
     ensures adds { Adds pool.old pool.new 1 }
     ensures inner { AddsInner pool.old.nodes pool.new.nodes }
+    ensures kept { (s : Scope) (n : Net) → InScope s pool.old n → InScope s pool.new n }
     ensures nets { (n : Net) → IsNet pool.old n → IsNet pool.new n }
     ensures values { (env : Env) (n : Net) → IsNet pool.old n → net_value env pool.new n ≡ net_value env pool.old n }
 {
@@ -224,7 +247,7 @@ pub fn mux(pool: &mut Pool, c: Net, a: Net, b: Net) -> Net
 }
 
 /// `a` above `b`, of at most 64 bits together.
-#[tactic(auto, using(crate::proofs::Nets::still_value), unfolding(crate::specs::Nets::net_value))]
+#[tactic(auto, using(crate::proofs::Nets::still_value, crate::proofs::Scopes::still_scope, crate::proofs::Scopes::takes_at), unfolding(crate::specs::Nets::net_value))]
 pub fn cat(pool: &mut Pool, a: Net, b: Net) -> Net
     requires spare { 1 ≤ pool.old.spare }
     requires a { IsNet pool.old a }
@@ -232,10 +255,12 @@ pub fn cat(pool: &mut Pool, a: Net, b: Net) -> Net
     requires sum { a.width + b.width ≤ 64 }
     ensures value { (env : Env) → net_value env pool.new result ≡ join_of b.width (net_value env pool.old a) (net_value env pool.old b) }
     ensures net { IsNet pool.new result }
+    ensures scope { (s : Scope) → InScope s pool.old a → InScope s pool.old b → InScope s pool.new result }
     ensures width { result.width ≡ a.width + b.width }
     ensures level { result.level ≡ max a.level b.level }
     ensures adds { Adds pool.old pool.new 1 }
     ensures inner { AddsInner pool.old.nodes pool.new.nodes }
+    ensures kept { (s : Scope) (n : Net) → InScope s pool.old n → InScope s pool.new n }
     ensures nets { (n : Net) → IsNet pool.old n → IsNet pool.new n }
     ensures values { (env : Env) (n : Net) → IsNet pool.old n → net_value env pool.new n ≡ net_value env pool.old n }
 {
@@ -248,7 +273,7 @@ pub fn cat(pool: &mut Pool, a: Net, b: Net) -> Net
 }
 
 /// Bits `hi` to `lo` of `a`. Bit 0 is the lowest.
-#[tactic(auto, using(crate::proofs::Nets::still_value), unfolding(crate::specs::Nets::net_value))]
+#[tactic(auto, using(crate::proofs::Nets::still_value, crate::proofs::Scopes::still_scope, crate::proofs::Scopes::takes_at), unfolding(crate::specs::Nets::net_value))]
 pub fn slice(pool: &mut Pool, a: Net, hi: u32, lo: u32) -> Net
     requires spare { 1 ≤ pool.old.spare }
     requires a { IsNet pool.old a }
@@ -256,10 +281,12 @@ pub fn slice(pool: &mut Pool, a: Net, hi: u32, lo: u32) -> Net
     requires within { hi < a.width }
     ensures value { (env : Env) → net_value env pool.new result ≡ bits_of (net_value env pool.old a) hi lo }
     ensures net { IsNet pool.new result }
+    ensures scope { (s : Scope) → InScope s pool.old a → InScope s pool.new result }
     ensures width { result.width ≡ hi + 1 - lo }
     ensures level { result.level ≡ a.level }
     ensures adds { Adds pool.old pool.new 1 }
     ensures inner { AddsInner pool.old.nodes pool.new.nodes }
+    ensures kept { (s : Scope) (n : Net) → InScope s pool.old n → InScope s pool.new n }
     ensures nets { (n : Net) → IsNet pool.old n → IsNet pool.new n }
     ensures values { (env : Env) (n : Net) → IsNet pool.old n → net_value env pool.new n ≡ net_value env pool.old n }
 {

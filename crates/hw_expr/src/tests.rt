@@ -1,6 +1,8 @@
+ghost use Rattle.std.specs.Prelude.{◌≡◌, ◌≤◌};
+ghost use Rattle.hw_expr.specs.Nets.{IsNet};
+
 use crate::{
-    Net, add, and, cat, eq, lit, lts, ltu, mux, mux_tree, not, one_hot, or, put, slice, sra_by,
-    sub, xor,
+    Net, add, and, cat, eq, lts, ltu, mux, mux_tree, not, one_hot, or, put, slice, sra_by, sub, xor,
 };
 use hw_pool::{NodeId, Op, Pool};
 use std::alloc::{AllocError, Global};
@@ -80,174 +82,90 @@ fn value(alloc: Global, pool: &Pool, inputs: &[u64], net: Net) -> Result<u64, Al
     Ok(at(&known, net.id).value)
 }
 
-#[test]
-fn bitwise(rt: HostRuntime) {
-    let mut pool = Pool::new(rt.alloc());
-    pool.reserve(16).expect(&rt, "room");
-    let a = put(&mut pool, Op::Input(0), 4, 3);
-    let b = put(&mut pool, Op::Input(1), 4, 5);
-    let turned = not(&mut pool, a);
-    let both = and(&mut pool, a, b);
-    let some = or(&mut pool, a, b);
-    let one = xor(&mut pool, a, b);
-    assert_eq!(rt;
-        (turned.width, turned.level, one.width, one.level),
-        (4, 3, 4, 5)
-    );
-    for (x, y, wanted) in [
-        (0b1100, 0b1010, [0b0011, 0b1000, 0b1110, 0b0110]),
-        (0b0000, 0b1111, [0b1111, 0b0000, 0b1111, 0b1111]),
-    ] {
-        let inputs = [x, y];
-        let found = [
-            value(rt.alloc(), &pool, &inputs, turned).expect(&rt, "room"),
-            value(rt.alloc(), &pool, &inputs, both).expect(&rt, "room"),
-            value(rt.alloc(), &pool, &inputs, some).expect(&rt, "room"),
-            value(rt.alloc(), &pool, &inputs, one).expect(&rt, "room"),
-        ];
-        assert_eq!(rt; found, wanted);
+/// A call of this crate.
+#[derive(Clone, Copy, Debug)]
+enum Call {
+    Not,
+    And,
+    Or,
+    Xor,
+    Add,
+    Sub,
+    Eq,
+    Ltu,
+    Lts,
+    Cat,
+    Slice,
+    Mux,
+    SraBy,
+    MuxTree,
+    OneHot,
+}
+
+/// A call over two nets of eight bits; the lowest bit of `b` is the one that chooses.
+fn called(pool: &mut Pool, call: Call, a: Net, b: Net) -> Net
+    requires spare { 100 ≤ pool.old.spare }
+    requires a { IsNet pool.old a }
+    requires b { IsNet pool.old b }
+    requires wide { a.width ≡ 8 }
+    requires other { b.width ≡ 8 }
+{
+    match call {
+        Call::Not => not(pool, a),
+        Call::And => and(pool, a, b),
+        Call::Or => or(pool, a, b),
+        Call::Xor => xor(pool, a, b),
+        Call::Add => add(pool, a, b),
+        Call::Sub => sub(pool, a, b),
+        Call::Eq => eq(pool, a, b),
+        Call::Ltu => ltu(pool, a, b),
+        Call::Lts => lts(pool, a, b),
+        Call::Cat => cat(pool, a, b),
+        Call::Slice => slice(pool, a, 6, 3),
+        Call::Mux => {
+            let test = slice(pool, b, 0, 0);
+            mux(pool, test, a, b)
+        }
+        Call::SraBy => sra_by(pool, a, 3),
+        Call::MuxTree => {
+            let index = slice(pool, b, 0, 0);
+            mux_tree(pool, index, &[a, b])
+        }
+        Call::OneHot => {
+            let number = slice(pool, a, 2, 0);
+            one_hot(pool, number)
+        }
     }
 }
 
 #[test]
-fn sums(rt: HostRuntime) {
-    let mut pool = Pool::new(rt.alloc());
-    pool.reserve(16).expect(&rt, "room");
-    let a = put(&mut pool, Op::Input(0), 8, 0);
-    let b = put(&mut pool, Op::Input(1), 8, 2);
-    let sum = add(&mut pool, a, b);
-    let difference = sub(&mut pool, a, b);
-    let five = lit(&mut pool, 8, 5);
-    assert_eq!(rt;
-        (sum.width, sum.level, five.width, five.level),
-        (8, 2, 8, 0)
-    );
-    for (x, y, wanted) in [
-        (200, 100, [44, 100, 5]),
-        (3, 5, [8, 254, 5]),
-        (255, 255, [254, 0, 5]),
+fn each_call_has_its_values(rt: HostRuntime) {
+    for (call, wanted) in [
+        (Call::Not, [0x4b, 0xb2, 0xf8]),
+        (Call::And, [0x04, 0x04, 0x07]),
+        (Call::Or, [0xfd, 0xfd, 0x07]),
+        (Call::Xor, [0xf9, 0xf9, 0x00]),
+        (Call::Add, [0x01, 0x01, 0x0e]),
+        (Call::Sub, [0x67, 0x99, 0x00]),
+        (Call::Eq, [0, 0, 1]),
+        (Call::Ltu, [0, 1, 0]),
+        (Call::Lts, [1, 0, 0]),
+        (Call::Cat, [0xb44d, 0x4db4, 0x0707]),
+        (Call::Slice, [0x6, 0x9, 0x0]),
+        (Call::Mux, [0xb4, 0xb4, 0x07]),
+        (Call::SraBy, [0xf6, 0x09, 0x00]),
+        (Call::MuxTree, [0x4d, 0x4d, 0x07]),
+        (Call::OneHot, [0x10, 0x20, 0x80]),
     ] {
-        let inputs = [x, y];
+        let mut pool = Pool::new(rt.alloc());
+        pool.reserve(110).expect(&rt, "room");
+        let a = put(&mut pool, Op::Input(0), 8, 3);
+        let b = put(&mut pool, Op::Input(1), 8, 5);
+        let net = called(&mut pool, call, a, b);
         let found = [
-            value(rt.alloc(), &pool, &inputs, sum).expect(&rt, "room"),
-            value(rt.alloc(), &pool, &inputs, difference).expect(&rt, "room"),
-            value(rt.alloc(), &pool, &inputs, five).expect(&rt, "room"),
-        ];
-        assert_eq!(rt; found, wanted);
-    }
-}
-
-#[test]
-fn comparisons(rt: HostRuntime) {
-    let mut pool = Pool::new(rt.alloc());
-    pool.reserve(32).expect(&rt, "room");
-    let a = put(&mut pool, Op::Input(0), 8, 1);
-    let b = put(&mut pool, Op::Input(1), 8, 0);
-    let same = eq(&mut pool, a, b);
-    let lower = ltu(&mut pool, a, b);
-    let less = lts(&mut pool, a, b);
-    assert_eq!(rt;
-        (same.width, lower.width, less.width, less.level),
-        (1, 1, 1, 1)
-    );
-    for (x, y, wanted) in [
-        (7, 7, [1, 0, 0]),
-        (7, 9, [0, 1, 1]),
-        (9, 7, [0, 0, 0]),
-        (0x80, 0x7f, [0, 0, 1]),
-        (0x7f, 0x80, [0, 1, 0]),
-        (0xfe, 0xff, [0, 1, 1]),
-    ] {
-        let inputs = [x, y];
-        let found = [
-            value(rt.alloc(), &pool, &inputs, same).expect(&rt, "room"),
-            value(rt.alloc(), &pool, &inputs, lower).expect(&rt, "room"),
-            value(rt.alloc(), &pool, &inputs, less).expect(&rt, "room"),
-        ];
-        assert_eq!(rt; found, wanted);
-    }
-}
-
-#[test]
-fn parts(rt: HostRuntime) {
-    let mut pool = Pool::new(rt.alloc());
-    pool.reserve(16).expect(&rt, "room");
-    let a = put(&mut pool, Op::Input(0), 8, 0);
-    let b = put(&mut pool, Op::Input(1), 4, 4);
-    let joined = cat(&mut pool, a, b);
-    let nibble = slice(&mut pool, a, 6, 3);
-    let test = slice(&mut pool, b, 0, 0);
-    let chosen = mux(&mut pool, test, nibble, b);
-    assert_eq!(rt;
-        (
-            joined.width,
-            joined.level,
-            nibble.width,
-            chosen.width,
-            chosen.level
-        ),
-        (12, 4, 4, 4, 4)
-    );
-    for (x, y, wanted) in [
-        (0xab, 0xc, [0xabc, 0x5, 0xc]),
-        (0x78, 0x1, [0x781, 0xf, 0xf]),
-    ] {
-        let inputs = [x, y];
-        let found = [
-            value(rt.alloc(), &pool, &inputs, joined).expect(&rt, "room"),
-            value(rt.alloc(), &pool, &inputs, nibble).expect(&rt, "room"),
-            value(rt.alloc(), &pool, &inputs, chosen).expect(&rt, "room"),
-        ];
-        assert_eq!(rt; found, wanted);
-    }
-}
-
-#[test]
-fn shifts(rt: HostRuntime) {
-    let mut pool = Pool::new(rt.alloc());
-    pool.reserve(200).expect(&rt, "room");
-    let a = put(&mut pool, Op::Input(0), 8, 6);
-    let same = sra_by(&mut pool, a, 0);
-    let three = sra_by(&mut pool, a, 3);
-    assert_eq!(rt; (same.width, three.width, three.level), (8, 8, 6));
-    for (x, wanted) in [
-        (0x84, [0x84, 0xf0]),
-        (0x7f, [0x7f, 0x0f]),
-        (0xff, [0xff, 0xff]),
-    ] {
-        let inputs = [x];
-        let found = [
-            value(rt.alloc(), &pool, &inputs, same).expect(&rt, "room"),
-            value(rt.alloc(), &pool, &inputs, three).expect(&rt, "room"),
-        ];
-        assert_eq!(rt; found, wanted);
-    }
-}
-
-#[test]
-fn choices(rt: HostRuntime) {
-    let mut pool = Pool::new(rt.alloc());
-    pool.reserve(64).expect(&rt, "room");
-    let index = put(&mut pool, Op::Input(0), 1, 2);
-    let number = put(&mut pool, Op::Input(1), 2, 1);
-    let a = lit(&mut pool, 8, 10);
-    let b = lit(&mut pool, 8, 11);
-    let item = mux_tree(&mut pool, index, &[a, b]);
-    let bit = one_hot(&mut pool, number);
-    assert_eq!(rt;
-        (item.width, item.level, bit.width, bit.level),
-        (8, 2, 4, 1)
-    );
-    for (x, y, wanted) in [
-        (0, 0, [10, 0b0001]),
-        (1, 1, [11, 0b0010]),
-        (0, 2, [10, 0b0100]),
-        (1, 3, [11, 0b1000]),
-    ] {
-        let inputs = [x, y];
-        let found = [
-            value(rt.alloc(), &pool, &inputs, item).expect(&rt, "room"),
-            value(rt.alloc(), &pool, &inputs, bit).expect(&rt, "room"),
+            value(rt.alloc(), &pool, &[0xb4, 0x4d], net).expect(&rt, "room"),
+            value(rt.alloc(), &pool, &[0x4d, 0xb4], net).expect(&rt, "room"),
+            value(rt.alloc(), &pool, &[7, 7], net).expect(&rt, "room"),
         ];
         assert_eq!(rt; found, wanted);
     }

@@ -1,6 +1,7 @@
-pub mod Tables
-pub mod Lists
-pub mod Frames
 pub mod Fits
+pub mod Scopes
 pub mod Drivers
-pub mod Pools
+pub mod Frames
+pub mod Makes
+pub mod Tables
+pub mod Ranges

@@ -76,3 +76,12 @@ pub record IsHeld (m : ModuleValue) (s : Held) : Type 0 where
 -- inputs are within their widths
 abbrev pub AreInputs : (ins : ℕ → ℕ) → Type 0
 AreInputs ins = (p : ℕ) → p < 30 → is_input (port_at p) ≡ true → ins p < 2 ^ ports.width_of (port_at p)
+
+-- what the registers and arrays of a module hold as a cycle begins, from some contents on the inputs of each cycle
+unfoldable pub held_at : (m : ModuleValue) (nodes : List Node) (s : Held) (ins : ℕ → ℕ → ℕ) → ℕ → Held
+held_at m nodes s ins zero = s
+held_at m nodes s ins (suc k) = next_held m nodes (held_at m nodes s ins k) (ins k)
+
+-- values of the forward wires are within their widths
+abbrev pub WiresWithin : ModuleValue → (wires : ℕ → ℕ) → Type 0
+WiresWithin m wires = (w : ℕ) → w < length m.wires → wires w < 2 ^ (wire_at m.wires w).width

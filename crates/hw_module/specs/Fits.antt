@@ -1,11 +1,8 @@
 -- Nets that fit a module.
-use Rattle.std.specs.Prelude.{◌≡◌, ℕ, ◌<◌, ◌≤◌, true, List, length}
+use Rattle.std.specs.Prelude.{◌≡◌, ℕ, ◌<◌, ◌≤◌, true, length}
 use Rattle.core_ports.specs.Ports.{is_input}
 use Rattle.core_ports.specs.Ports as ports
-use Rattle.hw_pool.specs.declared.node.Node.{Node}
-use Rattle.hw_pool.specs.declared.node.Op.{Op}
-use Rattle.hw_pool.specs.declared.node.Op.TheVariants as op
-use Rattle.hw_pool.specs.Nodes.{PoolValue, node_at, IsPool}
+use Rattle.hw_pool.specs.Nodes.{PoolValue}
 use Rattle.hw_pool.specs.Trees.{Tree, tree_of, width_of}
 use Rattle.hw_pool.specs.Trees.Tree.{Lit, Input, Wire, Reg, Not, And, Or, Xor, Add, Sub, Eq, Ltu, Mux, Cat, Slice, Read}
 use Rattle.hw_expr.specs.declared.net.Net.{Net}
@@ -63,27 +60,3 @@ TreeFits m level (Read width array a) = ReadFits m width array (width_of a) × T
 pub record FitsIn (m : ModuleValue) (pool : PoolValue) (net : Net) : Type 0 where
   pub is : IsNet pool net
   pub tree : TreeFits m net.level (tree_of pool.nodes net.id.0)
-
--- what a node takes from outside is the module's, and its level is at least that of a forward wire that it reads
-abbrev pub NodeFits : ModuleValue → List Node → (wide level : ℕ) → Op → Type 0
-NodeFits m nodes wide level (op.Lit value) = Unit {0}
-NodeFits m nodes wide level (op.Input port) = InputFits wide port
-NodeFits m nodes wide level (op.Wire wire) = WireFits m level wide wire
-NodeFits m nodes wide level (op.Reg reg) = RegFits m wide reg
-NodeFits m nodes wide level (op.Not a) = Unit {0}
-NodeFits m nodes wide level (op.And a b) = Unit {0}
-NodeFits m nodes wide level (op.Or a b) = Unit {0}
-NodeFits m nodes wide level (op.Xor a b) = Unit {0}
-NodeFits m nodes wide level (op.Add a b) = Unit {0}
-NodeFits m nodes wide level (op.Sub a b) = Unit {0}
-NodeFits m nodes wide level (op.Eq a b) = Unit {0}
-NodeFits m nodes wide level (op.Ltu a b) = Unit {0}
-NodeFits m nodes wide level (op.Mux c a b) = Unit {0}
-NodeFits m nodes wide level (op.Cat a b) = Unit {0}
-NodeFits m nodes wide level (op.Slice a high low) = Unit {0}
-NodeFits m nodes wide level (op.Read array a) = ReadFits m wide array (node_at nodes a.0).width
-
--- Each node of a pool fits a module. Then each net of the pool does (`proofs/Pools`).
-pub record PoolFits (m : ModuleValue) (nodes : List Node) : Type 0 where
-  pub pool : IsPool nodes
-  pub each : (k : ℕ) → k < length nodes → NodeFits m nodes (node_at nodes k).width (node_at nodes k).level (node_at nodes k).op

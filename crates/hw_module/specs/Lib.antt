@@ -1,6 +1,8 @@
 pub mod Ports
 pub mod Rows
 pub mod Frame
+pub mod Rights
+pub mod Scope
 pub mod Fits
 pub mod Driven
 pub mod Checked

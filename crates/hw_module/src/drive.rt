@@ -1,11 +1,12 @@
-ghost use Rattle.std.specs.Prelude.{◌≡◌, ℕ, ◌+◌, ◌<◌, ◌≤◌, false, length, List, None, Some};
+ghost use Rattle.std.specs.Prelude.{◌≡◌, ℕ, ◌+◌, ◌<◌, ◌≤◌, false, length, None, Some, true};
 ghost use Rattle.core_ports.specs.Ports.{is_input, width_of};
-ghost use Rattle.hw_pool.specs.declared.node.Node.{Node};
+ghost use Rattle.hw_module.specs.declared.rows.Owner.{Owner};
 ghost use Rattle.hw_module.specs.Checked.{DriversFit};
 ghost use Rattle.hw_module.specs.Ports.{port_at};
 ghost use Rattle.hw_module.specs.Rows.{array_at, out_at, reg_at, wire_at};
-ghost use Rattle.hw_module.specs.Fits.{FitsIn, PoolFits};
+ghost use Rattle.hw_module.specs.Fits.{FitsIn};
 ghost use Rattle.hw_module.specs.Frame.{Grows};
+ghost use Rattle.hw_module.specs.Rights.{Makes, MayDrive, Rights};
 
 use crate::{ArrayWrite, Module};
 use hw_expr::Net;
@@ -13,7 +14,7 @@ use hw_pool::Pool;
 
 impl Module {
     /// Drives a forward wire that has no driver. The net's level is below the wire's. It takes no memory.
-    #[tactic(auto, using(crate::proofs::Pools::grown_pool))]
+    #[tactic(auto, using(crate::proofs::Makes::set_wire))]
     pub fn drive(&mut self, pool: &Pool, wire: u32, net: Net)
         requires room { 1 ≤ self.old.room }
         requires there { wire < length self.old.wires }
@@ -29,7 +30,7 @@ impl Module {
         ensures outs { self.new.outs ≡ self.old.outs }
         ensures room { self.new.room + 1 ≡ self.old.room }
         ensures grows { Grows self.old self.new 1 }
-        ensures pool { (nodes : List Node) → PoolFits self.old nodes → PoolFits self.new nodes }
+        ensures makes { (by : Owner) (r : Rights) → MayDrive by r (wire_at self.old.wires wire).owner wire → Makes by r self.old self.new 1 }
         ensures drivers { DriversFit self.old pool.now → DriversFit self.new pool.now }
     {
         let _ = pool;
@@ -38,7 +39,7 @@ impl Module {
     }
 
     /// Gives a register that has none its next value. It takes no memory.
-    #[tactic(auto, using(crate::proofs::Pools::grown_pool))]
+    #[tactic(auto, using(crate::proofs::Makes::set_reg))]
     pub fn next(&mut self, pool: &Pool, reg: u32, net: Net)
         requires room { 1 ≤ self.old.room }
         requires there { reg < length self.old.regs }
@@ -53,7 +54,7 @@ impl Module {
         ensures outs { self.new.outs ≡ self.old.outs }
         ensures room { self.new.room + 1 ≡ self.old.room }
         ensures grows { Grows self.old self.new 1 }
-        ensures pool { (nodes : List Node) → PoolFits self.old nodes → PoolFits self.new nodes }
+        ensures makes { (by : Owner) (r : Rights) → (reg_at self.old.regs reg).owner ≡ by → Makes by r self.old self.new 1 }
         ensures drivers { DriversFit self.old pool.now → DriversFit self.new pool.now }
     {
         let _ = pool;
@@ -63,7 +64,7 @@ impl Module {
 
     /// Gives an array that has none its write: of `value` to the cell that `addr` names, where `enable` is 1. It
     /// takes no memory.
-    #[tactic(auto, using(crate::proofs::Pools::grown_pool))]
+    #[tactic(auto, using(crate::proofs::Makes::set_array))]
     pub fn write(&mut self, pool: &Pool, array: u32, enable: Net, addr: Net, value: Net)
         requires room { 1 ≤ self.old.room }
         requires there { array < length self.old.arrays }
@@ -82,7 +83,7 @@ impl Module {
         ensures outs { self.new.outs ≡ self.old.outs }
         ensures room { self.new.room + 1 ≡ self.old.room }
         ensures grows { Grows self.old self.new 1 }
-        ensures pool { (nodes : List Node) → PoolFits self.old nodes → PoolFits self.new nodes }
+        ensures makes { (by : Owner) (r : Rights) → (array_at self.old.arrays array).owner ≡ by → Makes by r self.old self.new 1 }
         ensures drivers { DriversFit self.old pool.now → DriversFit self.new pool.now }
     {
         let _ = pool;
@@ -95,7 +96,7 @@ impl Module {
     }
 
     /// Drives an output port that has no driver. It takes no memory.
-    #[tactic(auto, using(crate::proofs::Pools::grown_pool))]
+    #[tactic(auto, using(crate::proofs::Makes::set_out))]
     pub fn output(&mut self, pool: &Pool, port: u32, net: Net)
         requires room { 1 ≤ self.old.room }
         requires there { port < 30 }
@@ -111,7 +112,7 @@ impl Module {
         ensures arrays { self.new.arrays ≡ self.old.arrays }
         ensures room { self.new.room + 1 ≡ self.old.room }
         ensures grows { Grows self.old self.new 1 }
-        ensures pool { (nodes : List Node) → PoolFits self.old nodes → PoolFits self.new nodes }
+        ensures makes { (by : Owner) (r : Rights) → r.outs port ≡ true → Makes by r self.old self.new 1 }
         ensures drivers { DriversFit self.old pool.now → DriversFit self.new pool.now }
     {
         let _ = pool;

@@ -1,10 +1,9 @@
-ghost use Rattle.std.specs.Prelude.{◌≡◌, ℕ, ◌+◌, ◌<◌, ◌≤◌, ◌^◌, [], length, IfOk, List, None, replicate};
-ghost use Rattle.hw_pool.specs.declared.node.Node.{Node};
+ghost use Rattle.std.specs.Prelude.{◌≡◌, ℕ, ◌+◌, ◌<◌, ◌≤◌, ◌^◌, [], length, IfOk, None, replicate};
 ghost use Rattle.hw_pool.specs.Nodes.{IsWidth, PoolValue};
 ghost use Rattle.hw_module.specs.Checked.{DriversFit};
 ghost use Rattle.hw_module.specs.Rows.{IsModule, IsReset, array_at, reg_at, wire_at};
-ghost use Rattle.hw_module.specs.Fits.{PoolFits};
 ghost use Rattle.hw_module.specs.Frame.{Grows};
+ghost use Rattle.hw_module.specs.Rights.{Makes, Rights};
 
 use crate::{ArrayRow, Owner, RegRow, WireRow};
 use hw_expr::Net;
@@ -61,6 +60,7 @@ impl Module {
     /// The forward wires by their numbers.
     pub fn wires(&self) -> &Vec<WireRow>
         ensures rows { result.now.items ≡ self.now.wires }
+        ensures few { length self.now.wires < 2 ^ 32 }
         ensures ranges { IsModule self.now }
     {
         &self.wires
@@ -69,6 +69,7 @@ impl Module {
     /// The registers by their numbers.
     pub fn regs(&self) -> &Vec<RegRow>
         ensures rows { result.now.items ≡ self.now.regs }
+        ensures few { length self.now.regs < 2 ^ 32 }
         ensures ranges { IsModule self.now }
     {
         &self.regs
@@ -77,6 +78,7 @@ impl Module {
     /// The arrays by their numbers.
     pub fn arrays(&self) -> &Vec<ArrayRow>
         ensures rows { result.now.items ≡ self.now.arrays }
+        ensures few { length self.now.arrays < 2 ^ 32 }
         ensures ranges { IsModule self.now }
     {
         &self.arrays
@@ -99,7 +101,7 @@ impl Module {
 
     /// Makes a forward wire of `width` bits whose driver is to have a level below `level`, and answers its number.
     /// It takes no memory.
-    #[tactic(auto, using(crate::proofs::Pools::grown_pool))]
+    #[tactic(auto, using(crate::proofs::Makes::made_wire))]
     pub fn wire(&mut self, owner: Owner, width: u32, level: u32) -> u32
         requires room { 1 ≤ self.old.room }
         requires width { IsWidth width }
@@ -112,7 +114,7 @@ impl Module {
         ensures outs { self.new.outs ≡ self.old.outs }
         ensures room { self.new.room + 1 ≡ self.old.room }
         ensures grows { Grows self.old self.new 1 }
-        ensures pool { (nodes : List Node) → PoolFits self.old nodes → PoolFits self.new nodes }
+        ensures makes { (r : Rights) → Makes owner r self.old self.new 1 }
         ensures drivers { (pool : PoolValue) → DriversFit self.old pool → DriversFit self.new pool }
     {
         let number = self.wires.len() as u32;
@@ -128,7 +130,7 @@ impl Module {
 
     /// Makes a register of `width` bits, which takes the value `reset` in a reset if there is one, and answers
     /// its number. It takes no memory.
-    #[tactic(auto, using(crate::proofs::Pools::grown_pool))]
+    #[tactic(auto, using(crate::proofs::Makes::made_reg))]
     pub fn reg(&mut self, owner: Owner, width: u32, reset: Option<u64>) -> u32
         requires room { 1 ≤ self.old.room }
         requires width { IsWidth width }
@@ -142,7 +144,7 @@ impl Module {
         ensures outs { self.new.outs ≡ self.old.outs }
         ensures room { self.new.room + 1 ≡ self.old.room }
         ensures grows { Grows self.old self.new 1 }
-        ensures pool { (nodes : List Node) → PoolFits self.old nodes → PoolFits self.new nodes }
+        ensures makes { (r : Rights) → Makes owner r self.old self.new 1 }
         ensures drivers { (pool : PoolValue) → DriversFit self.old pool → DriversFit self.new pool }
     {
         let number = self.regs.len() as u32;
@@ -157,7 +159,7 @@ impl Module {
     }
 
     /// Makes an array of 2 ^ `bits` cells of `width` bits, and answers its number. It takes no memory.
-    #[tactic(auto, using(crate::proofs::Pools::grown_pool))]
+    #[tactic(auto, using(crate::proofs::Makes::made_array))]
     pub fn array(&mut self, owner: Owner, width: u32, bits: u32) -> u32
         requires room { 1 ≤ self.old.room }
         requires width { IsWidth width }
@@ -172,7 +174,7 @@ impl Module {
         ensures outs { self.new.outs ≡ self.old.outs }
         ensures room { self.new.room + 1 ≡ self.old.room }
         ensures grows { Grows self.old self.new 1 }
-        ensures pool { (nodes : List Node) → PoolFits self.old nodes → PoolFits self.new nodes }
+        ensures makes { (r : Rights) → Makes owner r self.old self.new 1 }
         ensures drivers { (pool : PoolValue) → DriversFit self.old pool → DriversFit self.new pool }
     {
         let number = self.arrays.len() as u32;

@@ -1,9 +1,6 @@
-ghost use Rattle.std.specs.Prelude.{◌≡◌, ℕ, ◌+◌, ◌<◌, ◌≤◌, Err, None};
-ghost use Rattle.hw_module.specs.Rows.{out_at};
-ghost use Rattle.hw_module.specs.Fits.{PoolFits};
+ghost use Rattle.std.specs.Prelude.{◌≡◌, Err};
 
-use crate::{Module, ModuleFault, Owner, PORTS, Thing, is_output, port_width};
-use hw_expr::lit;
+use crate::{Module, ModuleFault, Owner, Thing};
 use hw_pool::Pool;
 
 fn undriven(thing: Thing) -> Result<(), ModuleFault>
@@ -31,36 +28,4 @@ fn the_first_undriven_thing_is_named(rt: HostRuntime) {
     let now = parts.wire_net(&mut pool, wire);
     parts.next(&pool, reg, now);
     assert_eq!(rt; parts.check(&pool), undriven(Thing::Array(0)));
-}
-
-/// Drives an output port by 0.
-#[tactic(auto, using(crate::proofs::Pools::pool_fits, crate::proofs::Pools::added_pool, crate::proofs::Tables::width_wide))]
-fn drive_output(parts: &mut Module, pool: &mut Pool, port: u32)
-    requires room { 1 ≤ parts.old.room }
-    requires spare { 1 ≤ pool.old.spare }
-    requires there { port < 30 }
-    requires free { out_at parts.old.outs port ≡ None }
-    requires fits { PoolFits parts.old pool.old.nodes }
-    ensures room { parts.old.room ≤ parts.new.room + 1 }
-    ensures spare { pool.old.spare ≤ pool.new.spare + 1 }
-    ensures others { (k : ℕ) → (k ≡ port → ⊥) → out_at parts.new.outs k ≡ out_at parts.old.outs k }
-    ensures fits { PoolFits parts.new pool.new.nodes }
-{
-    if !is_output(port) {
-        return;
-    }
-    let zero = lit(pool, port_width(port), 0);
-    parts.output(pool, port, zero);
-}
-
-#[test]
-#[tactic(auto, using(crate::proofs::Pools::no_nodes_fit))]
-fn a_module_with_its_outputs_is_whole(rt: HostRuntime) {
-    let mut pool = Pool::new(rt.alloc());
-    pool.reserve(30).expect(&rt, "room");
-    let mut parts = Module::with_room(rt.alloc(), 30).expect(&rt, "room");
-    for port in 0..PORTS {
-        drive_output(&mut parts, &mut pool, port);
-    }
-    assert_eq!(rt; parts.check(&pool), Ok(()));
 }

@@ -34,13 +34,14 @@ inner_nothing nodes = record {
   pool = λ h. h;
 }
 
--- one node is added
-pub inner_one : (old new : PoolValue) (n : ℕ) (node : Node) (id : ℕ) → Adds old new n → n ≤ 1 → id < length new.nodes → length old.nodes ≤ id
+-- at most one node is added, and where one is, it is this one
+pub inner_one : (old new : PoolValue) (n : ℕ) (node : Node) (id : ℕ) → Adds old new n → n ≤ 1 → (length old.nodes < length new.nodes → id ≡ length old.nodes)
     → node_at new.nodes id ≡ node → IsPool new.nodes → IsInner node.op → AddsInner old.nodes new.nodes
-inner_one old new n node id adds one live fresh is pool inner = record {
+inner_one old new n node id adds one grown is pool inner = record {
   longer = adds.longer;
   nodes = adds.nodes;
   inner = λ k l h.
+      let last : id ≡ length old.nodes = grown (omega arith) in
       let at : id ≡ k = omega (arith, adds.most) in
       subst (λ (j : ℕ). IsInner (node_at new.nodes j).op) at (subst (λ (m : Node). IsInner m.op) (sym is) inner);
   pool = λ h. pool;

@@ -1,3 +1,4 @@
 pub mod Trees
 pub mod Bounds
 pub mod Frames
+pub mod Scopes

@@ -2,3 +2,4 @@ pub mod Nodes
 pub mod Trees
 pub mod Meaning
 pub mod Frame
+pub mod Scope

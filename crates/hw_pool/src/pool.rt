@@ -1,4 +1,4 @@
-ghost use Rattle.std.specs.Prelude.{◌≡◌, ◌+◌, ◌<◌, ◌≤◌, [], length, Err, OnErr, OnOk};
+ghost use Rattle.std.specs.Prelude.{◌≡◌, ◌+◌, ◌++◌, ◌<◌, ◌≤◌, ◌∷◌, [], length, Err, OnErr, OnOk};
 ghost use Rattle.hw_pool.specs.Nodes.{node_at, AreChildren, IsPool, IsWidth};
 ghost use Rattle.hw_pool.specs.Trees.{of_node, tree_of};
 ghost use Rattle.hw_pool.specs.Frame.{Adds};
@@ -98,15 +98,28 @@ impl Pool {
         requires width { IsWidth node.width }
         requires children { AreChildren self.old.nodes (length self.old.nodes) node.level node.op }
         ensures live { result.0 < length self.new.nodes }
-        ensures fresh { result.0 ≡ length self.old.nodes }
+        ensures grown { length self.old.nodes < length self.new.nodes → result.0 ≡ length self.old.nodes }
         ensures pool { IsPool self.new.nodes }
         ensures node { node_at self.new.nodes result.0 ≡ node }
         ensures tree { tree_of self.new.nodes result.0 ≡ of_node (tree_of self.old.nodes) node }
         ensures adds { Adds self.old self.new 1 }
     {
         let id = NodeId(self.nodes.len() as u32);
-        let _ = self.nodes.push(node);
+        self.append(node);
         id
+    }
+
+    /// Puts a node behind the others.
+    fn append(&mut self, node: Node)
+        requires spare { 1 ≤ self.old.spare }
+        requires width { IsWidth node.width }
+        requires children { AreChildren self.old.nodes (length self.old.nodes) node.level node.op }
+        ensures last { self.new.nodes ≡ self.old.nodes ++ node ∷ [] }
+        ensures pool { IsPool self.new.nodes }
+        ensures tree { tree_of self.new.nodes (length self.old.nodes) ≡ of_node (tree_of self.old.nodes) node }
+        ensures adds { Adds self.old self.new 1 }
+    {
+        let _ = self.nodes.push(node);
     }
 
     /// The node of this number.

@@ -1,3 +1,4 @@
 pub mod Reached
 pub mod Solves
 pub mod Marking
+pub mod Bounds

@@ -13,8 +13,8 @@ use Rattle.hw_expr.specs.declared.net.Net as net
 use Rattle.hw_module.specs.declared.rows.Owner.TheVariants.{Pipe}
 use Rattle.hw_module.specs.Ports.{port_at}
 use Rattle.hw_module.specs.Rows.{ModuleValue, reg_at, out_at}
-use Rattle.hw_module.specs.Cycle.{Held, IsHeld, AreInputs, out_value, next_held}
-use Rattle.module_agree.specs.Agree.{SameContents, CyclesAgree, SameDriver, SameReg, SameTrees, held_at}
+use Rattle.hw_module.specs.Cycle.{Held, IsHeld, AreInputs, out_value, next_held, held_at}
+use Rattle.module_agree.specs.Agree.{SameContents, CyclesAgree, SameDriver, SameReg, SameTrees}
 
 abbrev id : ℕ → NodeId
 id k = record { 0 = k }

@@ -1,4 +1,3 @@
-pub mod Bounds
 pub mod Depends
 pub mod Runs
 pub mod Same

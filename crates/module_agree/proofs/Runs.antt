@@ -6,9 +6,9 @@ use Rattle.hw_pool.specs.Nodes.{PoolValue}
 use Rattle.hw_module.specs.Ports.{port_at}
 use Rattle.hw_module.specs.Rows.{ModuleValue, IsModule, reg_at, array_at}
 use Rattle.hw_module.specs.Checked.{IsChecked}
-use Rattle.hw_module.specs.Cycle.{Held, IsHeld, AreInputs, out_value, next_held}
-use Rattle.module_agree.specs.Agree.{CyclesAgree, held_at}
-use Rattle.module_agree.proofs.Bounds.{next_fits}
+use Rattle.hw_module.specs.Cycle.{Held, IsHeld, AreInputs, out_value, next_held, held_at}
+use Rattle.hw_reach.proofs.Bounds.{held_fits}
+use Rattle.module_agree.specs.Agree.{CyclesAgree}
 use Rattle.module_agree.proofs.Depends.{HoldsSame, next_same, out_same}
 
 -- what is held stays within the widths where it holds the same
@@ -36,16 +36,14 @@ module _ (m : ModuleValue) (pool : PoolValue) (m' : ModuleValue) (nodes' : List 
       out_same m s s' ins ins same (λ p l h. refl) pool checked.fits p l ∙ agree.outs s' (held_same m s s' same held) ins inputs p l o
 
   module _ (s : Held) (start : IsHeld m s) (ins : ℕ → ℕ → ℕ) (inputs : (k : ℕ) → AreInputs (ins k)) where
-    held_fits : (k : ℕ) → IsHeld m (held_at m pool.nodes s ins k)
-    unfolding held_at
-    held_fits zero = start
-    held_fits (suc k) = next_fits m (held_at m pool.nodes s ins k) (ins k) (held_fits k) (inputs k) pool checked.fits is
+    fits_at : (k : ℕ) → IsHeld m (held_at m pool.nodes s ins k)
+    fits_at = held_fits m pool is checked.fits s start ins inputs
 
     pub runs_same : (k : ℕ) → HoldsSame m (held_at m pool.nodes s ins k) (held_at m' nodes' s ins k)
     unfolding held_at
     runs_same zero = record { regs = λ r l. refl; cells = λ a l. refl }
-    runs_same (suc k) = next_agrees (held_at m pool.nodes s ins k) (held_at m' nodes' s ins k) (runs_same k) (held_fits k) (ins k) (inputs k)
+    runs_same (suc k) = next_agrees (held_at m pool.nodes s ins k) (held_at m' nodes' s ins k) (runs_same k) (fits_at k) (ins k) (inputs k)
 
     pub outs_same : (k p : ℕ) → p < 30 → is_input (port_at p) ≡ false
         → out_value m pool.nodes (held_at m pool.nodes s ins k) (ins k) p ≡ out_value m' nodes' (held_at m' nodes' s ins k) (ins k) p
-    outs_same k = out_agrees (held_at m pool.nodes s ins k) (held_at m' nodes' s ins k) (runs_same k) (held_fits k) (ins k) (inputs k)
+    outs_same k = out_agrees (held_at m pool.nodes s ins k) (held_at m' nodes' s ins k) (runs_same k) (fits_at k) (ins k) (inputs k)

@@ -8,6 +8,7 @@ use Rattle.hw_module.specs.Ports.{port_at}
 use Rattle.hw_module.specs.Rows.{ModuleValue, IsModule}
 use Rattle.hw_module.specs.Checked.{IsChecked}
 use Rattle.hw_module.specs.Cycle.{Held, IsHeld, AreInputs, next_held}
+use Rattle.hw_reach.proofs.Bounds.{next_fits}
 use Rattle.verilog_mean.specs.Plain.{Plain}
 use Rattle.verilog_mean.specs.Cycle.{State, next}
 use Rattle.verilog_mean.specs.Run.{Inputs, IsStart, AllZero, state_at, trace_of}
@@ -15,7 +16,6 @@ use Rattle.verilog_mean.specs.CorePorts.{HasCorePorts}
 use Rattle.module_netlist.specs.Names.{owner_name, reg_name, array_name, port_name}
 use Rattle.module_netlist.specs.Means.{Means, HoldsZero, held_by, ins_by}
 use Rattle.module_agree.specs.Agree.{SameContents, CyclesAgree}
-use Rattle.module_agree.proofs.Bounds.{next_fits}
 use Rattle.module_agree.proofs.Depends.{HoldsSame}
 use Rattle.module_agree.proofs.Runs.{held_same, next_agrees, out_agrees}
 use Rattle.module_agree.proofs.Ports.{input_is}

@@ -1,5 +1,5 @@
 -- When two modules are one: they hold the same kinds of contents, and their cycles agree.
-use Rattle.std.specs.Prelude.{◌≡◌, ℕ, zero, suc, ◌<◌, false, List, length, Option, None, Some}
+use Rattle.std.specs.Prelude.{◌≡◌, ℕ, ◌<◌, false, List, length, Option, None, Some}
 use Rattle.core_ports.specs.Ports.{is_input}
 use Rattle.hw_pool.specs.declared.node.Node.{Node}
 use Rattle.hw_pool.specs.Trees.{tree_of}
@@ -32,11 +32,6 @@ pub record CyclesAgree (m : ModuleValue) (nodes : List Node) (m' : ModuleValue) 
       → (next_held m nodes s ins).regs r ≡ (next_held m' nodes' s ins).regs r
   pub cells : (s : Held) → IsHeld m s → (ins : ℕ → ℕ) → AreInputs ins → (a : ℕ) → a < length m.arrays
       → (next_held m nodes s ins).cells a ≡ (next_held m' nodes' s ins).cells a
-
--- what the registers and arrays of a module hold as a cycle begins, from some contents on the inputs of each cycle
-unfoldable pub held_at : (m : ModuleValue) (nodes : List Node) (s : Held) (ins : ℕ → ℕ → ℕ) → ℕ → Held
-held_at m nodes s ins zero = s
-held_at m nodes s ins (suc k) = next_held m nodes (held_at m nodes s ins k) (ins k)
 
 -- ---- the same rows and trees, whatever the numbers of the nodes
 

@@ -4,7 +4,7 @@ ghost use Rattle.hw_pool.specs.declared.node.Node.{Node};
 ghost use Rattle.hw_pool.specs.Frame.{Adds};
 ghost use Rattle.hw_pool.specs.Nodes.{PoolValue};
 ghost use Rattle.hw_module.specs.Checked.{DriversFit, IsChecked};
-ghost use Rattle.hw_module.specs.Cycle.{AreInputs, Held, IsHeld, out_value};
+ghost use Rattle.hw_module.specs.Cycle.{AreInputs, Held, IsHeld, held_at, out_value};
 ghost use Rattle.hw_module.specs.Frame.{Grows};
 ghost use Rattle.hw_module.specs.Ports.{port_at};
 ghost use Rattle.hw_module.specs.Rows.{IsModule, ModuleValue};
@@ -14,7 +14,7 @@ ghost use Rattle.verilog_mean.specs.Plain.{Plain};
 ghost use Rattle.verilog_mean.specs.Run.{AllZero, Inputs, IsStart, trace_of};
 ghost use Rattle.module_netlist.specs.Means.{Means, ins_by};
 ghost use Rattle.module_netlist.specs.Names.{port_name};
-ghost use Rattle.module_agree.specs.Agree.{CyclesAgree, SameContents, SameTrees, held_at};
+ghost use Rattle.module_agree.specs.Agree.{CyclesAgree, SameContents, SameTrees};
 ghost use Rattle.module_agree.specs.Keeps.{KeepsTrees};
 
 /// The law of agreeing modules: from the same contents, on the same inputs, both hold the same in each register and

@@ -1,6 +1,7 @@
 -- The small module of Examples is one that the laws speak of: it is checked, and its marks are those of its nodes.
-use Rattle.std.proofs.Common.{◌≡◌, ℕ, zero, suc, ◌+◌, ◌^◌, ◌<◌, ◌≤◌, Bool, true, false, List, [], ◌∷◌, length, get_or, Option, Some, None, refl, subst, arith, inl, inr}
+use Rattle.std.proofs.Common.{◌≡◌, ◌∙◌, ℕ, zero, suc, ◌+◌, ◌^◌, ◌<◌, ◌≤◌, Bool, true, false, List, [], ◌∷◌, length, get_or, Option, Some, None, refl, subst, sym, arith, inl, inr}
 use Rattle.std.proofs.lemmas.Bool.{cases_lt}
+use Rattle.std.proofs.lemmas.List.{get_or_past}
 use Rattle.core_ports.specs.Ports.{is_input}
 use Rattle.hw_pool.specs.declared.node.Node.{Node}
 use Rattle.hw_pool.specs.declared.node.Op.TheVariants as op
@@ -112,20 +113,6 @@ reset_some width v l u e = of_some (λ x. x < 2 ^ width) v u l e
 
 reset_none : (width : ℕ) → IsReset width None
 reset_none width u e = of_none (λ x. x < 2 ^ width) u e
-
-module_is : IsModule small
-module_is = record {
-  wires = λ k h. all_at (λ i (r : WireRow). IsWidth r.width) _ small.wires k ((omega arith, omega arith), tt) h;
-  regs = λ k h. all_at (λ i (r : RegRow). IsWidth r.width) _ small.regs k ((omega arith, omega arith), ((omega arith, omega arith), tt)) h;
-  resets = λ k h. all_at (λ i (r : RegRow). IsReset r.width r.reset) _ small.regs k (reset_some 8 5 (omega arith), (reset_none 1, tt)) h;
-  arrays = λ k h. all_at (λ i (r : ArrayRow). IsWidth r.width) _ small.arrays k ((omega arith, omega arith), tt) h;
-  bits_least = λ k h. all_at (λ i (r : ArrayRow). 1 ≤ r.bits) _ small.arrays k (omega arith, tt) h;
-  bits_most = λ k h. all_at (λ i (r : ArrayRow). r.bits ≤ 16) _ small.arrays k (omega arith, tt) h;
-  ports = refl;
-  wire_owners = λ k h. all_at (λ i (r : WireRow). IsOwner r.owner) _ small.wires k (omega arith, tt) h;
-  reg_owners = λ k h. all_at (λ i (r : RegRow). IsOwner r.owner) _ small.regs k (tt, (omega arith, tt)) h;
-  array_owners = λ k h. all_at (λ i (r : ArrayRow). IsOwner r.owner) _ small.arrays k (omega arith, tt) h;
-}
 
 -- ---- each net fits
 
@@ -287,6 +274,32 @@ drivers_fit = record {
   arrays = λ k v h e. all_at (λ i (r : ArrayRow). (v : ArrayWrite) → r.write ≡ Some v → DrivesArray small pool r v) _ small.arrays k
       ((λ v e. of_some (DrivesArray small pool _) (record { enable = by 4 1 0; addr = by 5 2 0; value = by 8 8 1 }) v (record { enable = net_4; addr = net_5; value = net_8; bit = refl; bits = refl; width = refl }) e), tt) h v e;
   outs = λ k n h e. all_at (λ i (o : Option Net). (n : Net) → o ≡ Some n → DrivesPort small pool i n) None small.outs k outs_fit h n e;
+}
+
+-- what is driven is an output
+no_driver : (k : ℕ) → is_input (port_at k) ≡ true → out_at small.outs k ≡ None
+no_driver k input = elim (cases_lt k 30) [
+  | inl there ↦ bare there (out_at small.outs k) refl
+  | inr past ↦ get_or_past small.outs k None past
+]
+  where
+    bare : k < 30 → (o : Option Net) → out_at small.outs k ≡ o → o ≡ None
+    bare there None e = refl
+    bare there (Some n) e = absurd (let no : true ≡ false = sym input ∙ (drivers_fit.outs k n there e).output in cc)
+
+module_is : IsModule small
+module_is = record {
+  wires = λ k h. all_at (λ i (r : WireRow). IsWidth r.width) _ small.wires k ((omega arith, omega arith), tt) h;
+  regs = λ k h. all_at (λ i (r : RegRow). IsWidth r.width) _ small.regs k ((omega arith, omega arith), ((omega arith, omega arith), tt)) h;
+  resets = λ k h. all_at (λ i (r : RegRow). IsReset r.width r.reset) _ small.regs k (reset_some 8 5 (omega arith), (reset_none 1, tt)) h;
+  arrays = λ k h. all_at (λ i (r : ArrayRow). IsWidth r.width) _ small.arrays k ((omega arith, omega arith), tt) h;
+  bits_least = λ k h. all_at (λ i (r : ArrayRow). 1 ≤ r.bits) _ small.arrays k (omega arith, tt) h;
+  bits_most = λ k h. all_at (λ i (r : ArrayRow). r.bits ≤ 16) _ small.arrays k (omega arith, tt) h;
+  ports = refl;
+  inputs = no_driver;
+  wire_owners = λ k h. all_at (λ i (r : WireRow). IsOwner r.owner) _ small.wires k (omega arith, tt) h;
+  reg_owners = λ k h. all_at (λ i (r : RegRow). IsOwner r.owner) _ small.regs k (tt, (omega arith, tt)) h;
+  array_owners = λ k h. all_at (λ i (r : ArrayRow). IsOwner r.owner) _ small.arrays k (omega arith, tt) h;
 }
 
 outs_driven : AllFrom (λ i (o : Option Net). (is_input (port_at i) ≡ false) × (o ≡ None) → ⊥) 0 small.outs

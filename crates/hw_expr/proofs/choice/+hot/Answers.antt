@@ -27,3 +27,12 @@ returns-clause-value t c = λ env.
     let bit = c.hot-low.ensures.values env _ c.eq-bit.ensures.net ∙ c.eq-bit.ensures.value env ∙ (λ i. one_if (eqb (one i) (number i))) in
     let low = c.hot-low.ensures.value env ∙ ap (hot_of (n - 1)) two in
     c.cat.ensures.value env ∙ (λ i. join_of (wide i) (bit i) (low i)) ∙ hot-more (n - 1) v ∙ ap (λ m. hot_of m v) last
+
+pub returns-clause-scope : goal.returns-clause-scope
+returns-clause-scope t c = λ s a.
+    let a1 = c.lit-number.ensures.kept s _ a in
+    let bit3 = c.hot-low.ensures.kept s _ (c.eq-bit.ensures.scope s a1 (c.lit-number.ensures.scope s)) in
+    c.cat.ensures.scope s bit3 (c.hot-low.ensures.scope s (c.eq-bit.ensures.kept s _ a1))
+
+pub returns-then-n-eq1-clause-scope : goal.returns-then-n-eq1-clause-scope
+returns-then-n-eq1-clause-scope t c = λ s a. c.eq-bit.ensures.scope s (c.lit-number.ensures.kept s _ a) (c.lit-number.ensures.scope s)

@@ -1,10 +1,10 @@
-use Rattle.std.proofs.Common.{◌≡◌, ◌∙◌, ℕ, ◌+◌, ◌-◌, ◌*◌, ◌/◌, ◌%◌, ◌^◌, ◌<◌, length, take, drop, ap, sym, arith, inl, inr}
+use Rattle.std.proofs.Common.{◌≡◌, ◌∙◌, ℕ, ◌+◌, ◌-◌, ◌*◌, ◌/◌, ◌%◌, ◌^◌, ◌<◌, length, take, drop, ap, sym, subst, arith, inl, inr}
 use Rattle.std.proofs.lemmas.Bool.{cases_lt}
 use Rattle.std.proofs.lemmas.Nat.{pow_pos}
 use Rattle.core_words.specs.Values.{choose}
 use Rattle.hw_pool.proofs.Frames.{adds_then}
 use Rattle.hw_expr.specs.declared.net.Net.{Net}
-use Rattle.hw_expr.specs.Nets.{IsNet, net_value}
+use Rattle.hw_expr.specs.Nets.{InScope, IsNet, net_value}
 use Rattle.hw_expr.specs.Lists.{net_at}
 use Rattle.hw_expr.proofs.Values.{bit-picks}
 use Rattle.hw_expr.proofs.Halves.{halves, half-pow, first-width, second-width, first-nets, second-nets}
@@ -128,3 +128,20 @@ returns-clause-value t c = λ env.
     ∙ c.slice-bit.ensures.values env _ at_high in
     c.mux.ensures.value env ∙ (λ i. choose (bit i) (high i) (low i))
     ∙ bit-picks (λ k. net_value env c.args.pool.now (net_at list k)) v b h (omega arith) half
+
+pub returns-clause-kept : goal.returns-clause-kept
+returns-clause-kept t c = λ s n is. c.mux.ensures.kept s n (c.select-high.ensures.kept s n (c.select-low.ensures.kept s n (c.slice-bit.ensures.kept s n is)))
+
+pub returns-clause-scope : goal.returns-clause-scope
+returns-clause-scope t c = λ s index each.
+    let list = c.args.list.now in
+    let h = length list / 2 in
+    let two = halves list c.args.bits c.requires.items (omega arith) in
+    let index1 = c.slice-bit.ensures.kept s _ index in
+    let each1 : (k : ℕ) → k < length list → InScope s c.slice-bit.new.pool (net_at list k) = λ k l. c.slice-bit.ensures.kept s _ (each k l) in
+    let bit3 = c.select-high.ensures.kept s _ (c.select-low.ensures.kept s _ (c.slice-bit.ensures.scope s index)) in
+    let low = c.select-low.ensures.scope s index1
+    (λ k l. subst (InScope s c.slice-bit.new.pool) (sym (two.first_at k (omega (arith, two.first_length)))) (each1 k (omega (arith, two.whole, two.first_length)))) in
+    let high = c.select-high.ensures.scope s (c.select-low.ensures.kept s _ index1)
+    (λ k l. c.select-low.ensures.kept s _ (subst (InScope s c.slice-bit.new.pool) (sym (two.second_at k (omega (arith, two.second_length)))) (each1 (h + k) (omega (arith, two.whole, two.second_length))))) in
+    c.mux.ensures.scope s bit3 high (c.select-high.ensures.kept s _ low)

@@ -38,3 +38,14 @@ pub returns-clause-inner : goal.returns-clause-inner
 returns-clause-inner c =
     inner_then _ _ _ c.slice-sign.ensures.inner
     (inner_then _ _ _ c.slice-other.ensures.inner (inner_then _ _ _ c.eq-same.ensures.inner (inner_then _ _ _ c.ltu-lower.ensures.inner c.mux.ensures.inner)))
+
+pub returns-clause-scope : goal.returns-clause-scope
+returns-clause-scope c = λ s a b.
+    let a1 = c.slice-sign.ensures.kept s _ a in
+    let b1 = c.slice-sign.ensures.kept s _ b in
+    let a3 = c.eq-same.ensures.kept s _ (c.slice-other.ensures.kept s _ a1) in
+    let b3 = c.eq-same.ensures.kept s _ (c.slice-other.ensures.kept s _ b1) in
+    let sign2 = c.slice-other.ensures.kept s _ (c.slice-sign.ensures.scope s a) in
+    let sign4 = c.ltu-lower.ensures.kept s _ (c.eq-same.ensures.kept s _ sign2) in
+    let same4 = c.ltu-lower.ensures.kept s _ (c.eq-same.ensures.scope s sign2 (c.slice-other.ensures.scope s b1)) in
+    c.mux.ensures.scope s same4 (c.ltu-lower.ensures.scope s a3 b3) sign4
