@@ -1,0 +1,4 @@
+mod Decides
+pub mod Has
+pub mod Steps
+pub mod Plain

@@ -1,0 +1,5 @@
+pub mod Bits
+pub mod Sums
+pub mod Halves
+pub mod Shifts
+pub mod Gather
