@@ -1,2 +1,4 @@
+pub mod Drafts
+pub mod Counts
 pub mod Limits
 pub mod Pokes

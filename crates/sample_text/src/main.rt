@@ -1,12 +1,21 @@
 //! The program: writes one of the sample modules on standard output.
 #![tactic(auto)]
 
+mod draft;
+mod drivers;
+mod few;
+mod many;
+mod nodes;
+mod sample;
+
 ghost use Rattle.std.specs.Prelude.{◌≤◌, IfOk};
 ghost use Rattle.hw_module.specs.Checked.{IsChecked};
 ghost use Rattle.module_netlist.specs.Written.{thing_count};
 
+use crate::few::small;
+use crate::many::large;
+use crate::sample::{Sample, SampleRefusal};
 use core_host::{Host, RealHost};
-use hw_sample::{Sample, SampleRefusal, large, small};
 use std::alloc::Global;
 use std::env::{self, Env};
 use std::io;

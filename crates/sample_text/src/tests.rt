@@ -3,10 +3,12 @@ ghost use Rattle.hw_module.specs.Checked.{IsChecked};
 ghost use Rattle.hw_cycle.specs.Inputs.{AreWithin};
 ghost use Rattle.sample_text.specs.Poked.{HasCells, IsOf};
 
+use crate::few::small;
+use crate::many::large;
+use crate::sample::Sample;
 use core_host::{MemHost, Port, TextHost};
 use core_words::mask_of;
 use hw_cycle::Cycle;
-use hw_sample::{Sample, large, small};
 use std::alloc::{AllocError, Global};
 use std::test::Fail;
 use verilog_load::load_text;
@@ -145,11 +147,11 @@ fn poke_all(sample: &Sample, cycle: &mut Cycle, sim: &mut TreeSim, number: u64) 
 {
     let mut last = number;
     let mut all = true;
-    for reg in 0..2 {
+    for reg in 0..3 {
         last = next_number(last);
         all &= poke_reg(sample, cycle, sim, reg, last >> 32);
     }
-    for cell in 0..8 {
+    for cell in 0..16 {
         last = next_number(last);
         all &= poke_cell(sample, cycle, sim, 0, cell, last >> 32);
     }
@@ -205,26 +207,26 @@ fn the_text_steps_as_the_module(rt: HostRuntime) -> Result<(), Fail> {
     Ok(())
 }
 
-/// Whether bytes begin with a front and go on behind it.
-fn goes_on(bytes: &[u8], front: &[u8]) -> bool {
-    front.len() < bytes.len() && &bytes[..front.len()] == front
-}
-
 #[test]
-fn a_write_that_fails_leaves_a_prefix(rt: HostRuntime) -> Result<(), Fail> {
+fn a_port_that_fails_holds_a_part(rt: HostRuntime) -> Result<(), Fail> {
     let alloc = rt.alloc();
     let sample = small(alloc)?;
     let text = module_text(alloc, &sample.circuit, &sample.pool)?;
-    let mut none = MemHost::new(alloc, Vec::new(alloc), vec![in alloc; 1]?, 100, 65_536)?;
-    let written = write_module(alloc, &sample.circuit, &sample.pool, &mut none);
-    assert_eq!(rt; written, Err(WriteRefusal::WriteFault));
-    assert_eq!(rt; none.pushed(Port::Main).len(), 0);
-    let mut some = MemHost::new(alloc, Vec::new(alloc), vec![in alloc; 3]?, 100, 65_536)?;
-    let written = write_module(alloc, &sample.circuit, &sample.pool, &mut some);
-    assert_eq!(rt; written, Err(WriteRefusal::WriteFault));
-    let pushed = some.pushed(Port::Main).as_slice();
-    assert_eq!(rt; pushed.len(), 200);
-    assert!(rt; goes_on(text.as_slice(), pushed));
+    let calls = (text.len() + 99) / 100;
+    for fails in 1..=calls {
+        let mut host = MemHost::new(
+            alloc,
+            Vec::new(alloc),
+            vec![in alloc; fails as u32]?,
+            100,
+            65_536,
+        )?;
+        let written = write_module(alloc, &sample.circuit, &sample.pool, &mut host);
+        assert_eq!(rt; written, Err(WriteRefusal::WriteFault));
+        let taken = host.pushed(Port::Main).as_slice();
+        assert_eq!(rt; taken.len() + 100, 100 * fails);
+        assert!(rt; text.starts_with(taken));
+    }
     Ok(())
 }
 

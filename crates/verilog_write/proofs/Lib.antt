@@ -4,4 +4,3 @@ pub mod Hex
 pub mod Chains
 pub mod Whole
 pub mod Means
-pub mod Counts

@@ -15,6 +15,3 @@ mod write;
 pub use law::netlist_texts_mean;
 pub use netlist::write_netlist;
 pub use write::{WriteRefusal, module_text, write_module};
-
-#[cfg(test)]
-mod tests;

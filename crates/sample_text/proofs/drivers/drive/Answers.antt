@@ -1,0 +1,8 @@
+use Rattle.hw_module.proofs.Scopes.{fits_of, kept_grown}
+use Rattle.sample_text.proofs.drivers.drive.Goals as goal
+
+pub drive-requires-clause-fits : goal.drive-requires-clause-fits
+drive-requires-clause-fits c = fits_of _ _ _ c.requires
+
+pub returns-clause-nets : goal.returns-clause-nets
+returns-clause-nets c nets are k there = kept_grown _ _ _ _ _ c.drive.ensures.grows (are k there)

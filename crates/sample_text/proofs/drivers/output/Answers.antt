@@ -1,0 +1,8 @@
+use Rattle.hw_module.proofs.Scopes.{fits_of, kept_grown}
+use Rattle.sample_text.proofs.drivers.output.Goals as goal
+
+pub output-requires-clause-fits : goal.output-requires-clause-fits
+output-requires-clause-fits c = fits_of _ _ _ c.requires
+
+pub returns-clause-nets : goal.returns-clause-nets
+returns-clause-nets c nets are k there = kept_grown _ _ _ _ _ c.output.ensures.grows (are k there)
