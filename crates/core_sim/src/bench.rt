@@ -31,19 +31,20 @@ impl Bench {
         alloc: Global,
         checked: &Checked,
         mem: Mem,
-        delays: Vec<u32>,
+        delays: &[u32],
     ) -> Result<Bench, AllocError>
         requires checked { IsChecked checked.now }
         requires core { IsCore (plain_tree checked.now.tree) }
-        requires delays { 0 < length delays.items }
+        requires delays { 0 < length delays.now }
         ensures ready { IfOk result (λ b. IsReady b) }
         ensures memory { IsMemory mem }
-        ensures bench { IfOk result (λ b. IsBench (plain_tree checked.now.tree) (joint_start (plain_tree checked.now.tree) mem delays.items) b) }
+        ensures bench { IfOk result (λ b. IsBench (plain_tree checked.now.tree) (joint_start (plain_tree checked.now.tree) mem delays.now) b) }
     {
         // By its contract the memory is one of a system.
         let _base = mem.base();
         let ports = checked.tree.ports.items().as_slice();
         let sim = TreeSim::new(alloc, checked)?;
+        let delays = Vec::from_slice(alloc, delays)?;
         let inputs = input_ports(alloc, ports)?;
         let ins = Vec::from_elem(alloc, 0u64, sim.flat.ins)?;
         let outs = Vec::from_elem(alloc, 0u64, sim.flat.outs.len())?;

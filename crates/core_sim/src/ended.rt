@@ -1,3 +1,4 @@
+use core_host::List;
 use thiserror::Error;
 
 /// What a run is to do: whether it writes the lines of its events, of how many cycles it is at most, and the
@@ -6,7 +7,7 @@ use thiserror::Error;
 pub struct RunOpts {
     pub trace: bool,
     pub cycles: u64,
-    pub delays: Vec<u32>,
+    pub delays: List<u32>,
 }
 
 /// How a run ended. The cycle of the end counts in `cycles`, an event that ended it in `events`.

@@ -28,21 +28,21 @@ pub fn run_tree<H: Host>(
     alloc: Global,
     checked: &Checked,
     mem: Mem,
-    opts: RunOpts,
+    opts: &RunOpts,
     host: &mut H,
 ) -> Result<Ended, SimRefusal>
     requires checked { IsChecked checked.now }
     requires ports { HasCorePorts (plain_tree checked.now.tree) }
-    requires delays { 0 < length opts.delays.items }
-    ensures end { IfOk result (λ e. e ≡ end_of (run_of (plain_tree checked.now.tree) mem opts.delays.items) opts.cycles) }
+    requires delays { 0 < length opts.now.delays }
+    ensures end { IfOk result (λ e. e ≡ end_of (run_of (plain_tree checked.now.tree) mem opts.now.delays) opts.now.cycles) }
     ensures text { OnOk result (Appends (H.pushed host.old Main)
-        (run_text opts.trace (run_of (plain_tree checked.now.tree) mem opts.delays.items) opts.cycles) (H.pushed host.new Main)) }
+        (run_text opts.now.trace (run_of (plain_tree checked.now.tree) mem opts.now.delays) opts.now.cycles) (H.pushed host.new Main)) }
     ensures cut { result ≡ Err SimRefusal.WriteFault → IsCut (H.pushed host.old Main)
-        (run_text opts.trace (run_of (plain_tree checked.now.tree) mem opts.delays.items) opts.cycles) (H.pushed host.new Main) }
+        (run_text opts.now.trace (run_of (plain_tree checked.now.tree) mem opts.now.delays) opts.now.cycles) (H.pushed host.new Main) }
     ensures cause { result ≡ Err SimRefusal.WriteFault → Rose (H.write_faults host.old) (H.write_faults host.new) }
     ensures empty { result ≡ Err SimRefusal.NoMemory → H.pushed host.new Main ≡ H.pushed host.old Main }
     ensures refusals { IfErr result (λ r. (r ≡ SimRefusal.WriteFault) ⊎ (r ≡ SimRefusal.NoMemory)) }
-    ensures over { ¬ (result ≡ Err SimRefusal.NoMemory) → IsOverBuses (plain_tree checked.now.tree) mem opts.delays.items }
+    ensures over { ¬ (result ≡ Err SimRefusal.NoMemory) → IsOverBuses (plain_tree checked.now.tree) mem opts.now.delays }
     ensures others { (p : Port) → ¬ (p ≡ Main) → H.pushed host.new p ≡ H.pushed host.old p }
     ensures left { (m : ℕ) → H.left host.new m ≡ H.left host.old m }
     ensures files { H.files host.new ≡ H.files host.old }
@@ -51,7 +51,7 @@ pub fn run_tree<H: Host>(
     ensures reads { H.read_faults host.old ≤ H.read_faults host.new }
     ensures writes { H.write_faults host.old ≤ H.write_faults host.new }
 {
-    let mut bench = match Bench::new(alloc, checked, mem, opts.delays) {
+    let mut bench = match Bench::new(alloc, checked, mem, opts.delays.items().as_slice()) {
         Ok(bench) => bench,
         Err(_) => return Err(SimRefusal::NoMemory),
     };

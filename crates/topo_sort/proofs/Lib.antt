@@ -7,3 +7,5 @@ pub mod Loops
 pub mod Popped
 pub mod Moved
 pub mod Orders
+pub mod Found
+pub mod Falling

@@ -4,3 +4,5 @@ pub mod Stops
 pub mod Ranks
 pub mod Search
 pub mod Moves
+pub mod Reach
+pub mod Falls

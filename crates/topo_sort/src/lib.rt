@@ -5,13 +5,15 @@
 //! the edges together. `specs/Order` says what the order is, `specs/Search` what the search knows at each step.
 #![tactic(auto)]
 
+mod falls;
 mod mark;
 mod order;
+mod parts;
+mod reach;
 mod search;
 mod step;
 
+pub use falls::ranks_of;
 pub use order::sort;
+pub use reach::leads_back;
 pub use step::Stop;
-
-#[cfg(test)]
-mod tests;

@@ -31,7 +31,7 @@ pub enum Step {
     Pass { done: usize },
 }
 
-fn needs_of(edges: &[Items<u32>], node: u32) -> &[u32]
+pub fn needs_of(edges: &[Items<u32>], node: u32) -> &[u32]
     requires { node < length edges.now }
     ensures { result.now ≡ needs edges.now node }
 {

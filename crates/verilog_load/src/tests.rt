@@ -2,6 +2,7 @@ use crate::{TextRefusal, load_text};
 use std::alloc::{AllocError, Global};
 use std::test::Fail;
 use verilog_mean::MeanRefusal;
+use verilog_read::{ReadRefusal, UnsupportedForm};
 use verilog_sim::TreeSim;
 
 /// Why a text gives no checked tree.
@@ -12,7 +13,7 @@ fn refusal(alloc: Global, text: &str) -> Option<TextRefusal> {
     }
 }
 
-/// A module with an output `q` of 8 bits and these items.
+/// A module with an output `q` of 8 bits and these items, which begin at place 69.
 fn with_items(alloc: Global, items: &str) -> Result<String, AllocError> {
     let mut text = String::new(alloc);
     text.push_str("module m(input clk,input reset,input [7:0] a,input e,output [7:0] q);")?;
@@ -21,11 +22,16 @@ fn with_items(alloc: Global, items: &str) -> Result<String, AllocError> {
     Ok(text)
 }
 
-#[test]
-fn loads_a_constant(rt: HostRuntime) -> Result<(), Fail> {
-    let text = "module m(input clk,input reset,output [7:0] q);assign q=8'h1f;endmodule";
-    assert_eq!(rt; refusal(rt.alloc(), text), None);
-    Ok(())
+/// A module whose output has a value that begins at place 78: some bytes again and again, and others behind them.
+fn with_value(alloc: Global, part: &str, times: u32, last: &str) -> Result<String, AllocError> {
+    let mut items = String::new(alloc);
+    items.push_str("assign q=")?;
+    for _ in 0..times {
+        items.push_str(part)?;
+    }
+    items.push_str(last)?;
+    items.push_str(";")?;
+    with_items(alloc, items.as_str())
 }
 
 #[test]
@@ -34,9 +40,10 @@ fn takes_sound_modules(rt: HostRuntime) -> Result<(), Fail> {
     for items in [
         "assign q=a;",
         "wire [7:0] w;assign q=w+8'd1;assign w=~a;",
-        "assign q=e?a-8'h01:(a&8'b1010_1010|a^8'o17);",
+        "assign q=e?a-8'h01:(a&8'b1010_1010|a^8'O17);",
         "wire c=a<8'h10;assign q={7'h00,c==e};",
         "assign q={a[3:0],a[7:4]};",
+        "wire [63:0] w=64'hffff_ffff_ffff_ffff;assign q=/* the low byte */ w[7:0]; // of w\n",
         "reg [7:0] r;assign q=r;always @(posedge clk) r<=a;",
         "reg [7:0] r;assign q=r;always @(posedge clk) if (reset) r<=8'h07; else r<=r+a;",
         "reg [7:0] m [0:3];assign q=m[a[1:0]];always @(posedge clk) if (e) m[a[3:2]]<=a;",
@@ -44,6 +51,67 @@ fn takes_sound_modules(rt: HostRuntime) -> Result<(), Fail> {
     ] {
         let text = with_items(alloc, items)?;
         assert_eq!(rt; refusal(alloc, text.as_str()), None, "{items}");
+    }
+    Ok(())
+}
+
+#[test]
+fn refuses_texts_at_places(rt: HostRuntime) -> Result<(), Fail> {
+    let alloc = rt.alloc();
+    for (value, at) in [
+        ("8'h1ff", 83),
+        ("65'h1", 78),
+        ("08'h1", 78),
+        ("1234567890'h1", 78),
+        ("8'x1", 80),
+        ("8'*1", 80),
+        ("8'h_1", 81),
+        ("a b", 80),
+        ("~~a", 79),
+        ("/*/", 91),
+        ("wire", 78),
+        ("1234567890", 87),
+        ("\\a", 78),
+        ("a;endmodule endmodule", 90),
+    ] {
+        let text = with_value(alloc, "", 0, value)?;
+        assert_eq!(rt;
+            refusal(alloc, text.as_str()),
+            Some(TextRefusal::Unread(ReadRefusal::Text { at })),
+            "{value}"
+        );
+    }
+    let long = with_value(alloc, "x", 255, "$y")?;
+    assert_eq!(rt;
+        refusal(alloc, long.as_str()),
+        Some(TextRefusal::Unread(ReadRefusal::Text { at: 333 }))
+    );
+    Ok(())
+}
+
+#[test]
+fn tells_forms_apart(rt: HostRuntime) -> Result<(), Fail> {
+    let alloc = rt.alloc();
+    for (part, times, last, at, form) in [
+        ("", 0, "e<<2", 79, UnsupportedForm::Shift),
+        ("", 0, "e>>>2", 79, UnsupportedForm::Shift),
+        ("", 0, "31", 78, UnsupportedForm::Bare),
+        ("", 0, "a*b", 79, UnsupportedForm::Times),
+        ("", 0, "a/b", 79, UnsupportedForm::Times),
+        ("", 0, "a>=b", 79, UnsupportedForm::Compare),
+        ("", 0, "a===b", 79, UnsupportedForm::Compare),
+        ("", 0, "a&&b", 79, UnsupportedForm::Logic),
+        ("", 0, "!a", 78, UnsupportedForm::Logic),
+        ("", 0, "a~^b", 79, UnsupportedForm::Logic),
+        ("", 0, "#1", 78, UnsupportedForm::Delay),
+        ("", 0, "$time", 78, UnsupportedForm::System),
+        ("", 0, "`a", 78, UnsupportedForm::Directive),
+        ("", 0, "case", 78, UnsupportedForm::Word),
+        ("(", 64, "a", 141, UnsupportedForm::Deep),
+    ] {
+        let text = with_value(alloc, part, times, last)?;
+        let wanted = TextRefusal::Unread(ReadRefusal::Unsupported { at, form });
+        assert_eq!(rt; refusal(alloc, text.as_str()), Some(wanted), "{last}");
     }
     Ok(())
 }
@@ -96,6 +164,12 @@ fn refuses_by_each_rule(rt: HostRuntime) -> Result<(), Fail> {
             MeanRefusal::NameUnknown { at: 82 },
         ),
         ("wire [7:0] w=~w;assign q=a;", MeanRefusal::Loop { at: 80 }),
+        ("assign q=q;", MeanRefusal::Loop { at: 66 }),
+        // Only `d` and `f` depend on themselves.
+        (
+            "wire [7:0] c;wire [7:0] d;wire [7:0] f;assign f=d;assign c=d;assign d=f;assign q=c;",
+            MeanRefusal::Loop { at: 93 },
+        ),
     ] {
         let text = with_items(alloc, items)?;
         assert_eq!(rt;

@@ -4,3 +4,5 @@ pub mod Words
 pub mod Loop
 pub mod Fronts
 pub mod Whole
+pub mod Faults
+pub mod Places

@@ -7,6 +7,10 @@ use Rattle.verilog_tree.specs.Lex.{token_at, Scan, HasTokens}
 use Rattle.verilog_read.specs.Runs.{token_of}
 use Rattle.verilog_read.specs.declared.token.Placed as code
 use Rattle.verilog_read.specs.Seen.{placed_seen, seen}
+use Rattle.verilog_read.specs.declared.refusal.UnsupportedForm.{UnsupportedForm}
+use Rattle.verilog_read.specs.Faults.{fault_of}
+use Rattle.verilog_read.specs.Forms.{form_at}
+use Rattle.verilog_read.specs.Places.{EndsAt, HasFront}
 use Rattle.verilog_read.specs.Tokens.{Extends}
 
 -- what a token adds
@@ -14,6 +18,11 @@ pub forth : (size at : ℕ) (rest next behind : List ℕ) (t : Lexeme) (more : L
     HasTokens size behind more → HasTokens size rest (record { at = at; lexeme = t } ∷ more)
 forth size at rest [] behind t more s l p h k = absurd (omega arith)
 forth size at rest (b ∷ bs) behind t more s l p h k = (b, bs, behind, s, p, h, k)
+
+pub forth_front : (size at : ℕ) (rest next behind : List ℕ) (t : Lexeme) (more : List Placed) (end : ℕ) (form : Option UnsupportedForm) → skipped Between rest ≡ Some next → 0 < length next → at + length next ≡ size
+    → token_of next ≡ Some (t, behind) → HasFront size behind more end form → HasFront size rest (record { at = at; lexeme = t } ∷ more) end form
+forth_front size at rest [] behind t more end form s l p h k = absurd (omega arith)
+forth_front size at rest (b ∷ bs) behind t more end form s l p h k = (b, bs, behind, s, p, h, k)
 
 some_is : {A : Type 0} (x y : A) → ◌≡◌ {A = Option A} (Some x) (Some y) → x ≡ y
 some_is x y h = cc
@@ -70,12 +79,13 @@ only_end size rest (b ∷ bs) ts s l k = absurd (omega arith)
 -- ---- the invariant
 
 pub begins : (size : ℕ) (bytes : List ℕ) → Extends size bytes [] bytes
-begins size bytes = record { forth = λ more k. k; back = λ ts k. (ts, refl, k) }
+begins size bytes = record { forth = λ more k. k; front = λ more end form k. k; back = λ ts k. (ts, refl, k) }
 
 pub goes_on : (size at : ℕ) (bytes rest next behind : List ℕ) (found : List Placed) (t : Lexeme) → Extends size bytes found rest → skipped Between rest ≡ Some next → 0 < length next → at + length next ≡ size → token_of next ≡ Some (t, behind) →
     Extends size bytes (found ++ record { at = at; lexeme = t } ∷ []) behind
 goes_on size at bytes rest next behind found t e s l p h = record {
   forth = λ more k. rw append_assoc (e.forth (record { at = at; lexeme = t } ∷ more) (forth size at rest next behind t more s l p h k));
+  front = λ more end form k. rw append_assoc (e.front (record { at = at; lexeme = t } ∷ more) end form (forth_front size at rest next behind t more end form s l p h k));
   back = λ ts k.
       let (more, parts, k') = e.back ts k in
       let g = back size at rest next behind t more s l p h k' in
@@ -85,6 +95,23 @@ goes_on size at bytes rest next behind found t e s l p h = record {
 append_nothing : (ts : List Placed) → ts ++ [] ≡ ts
 append_nothing [] = refl
 append_nothing (t ∷ ts) = ap (λ (l : List Placed). t ∷ l) (append_nothing ts)
+
+-- ---- the end of the tokens
+
+pub front_here : (size : ℕ) (bytes rest : List ℕ) (found : List Placed) (end : ℕ) (form : Option UnsupportedForm) → Extends size bytes found rest → EndsAt size (skipped Between rest) end form → HasFront size bytes found end form
+front_here size bytes rest found end form e h = subst (λ ts. HasFront size bytes ts end form) (append_nothing found) (e.front [] end form h)
+
+pub gap_front : (size : ℕ) (bytes rest : List ℕ) (found : List Placed) → Extends size bytes found rest → skipped Between rest ≡ None → HasFront size bytes found size None
+gap_front size bytes rest found e s = front_here size bytes rest found size None e (subst (λ o. EndsAt size o size None) (sym s) (refl, refl))
+
+pub end_front : (size end : ℕ) (bytes rest next : List ℕ) (found : List Placed) → Extends size bytes found rest → skipped Between rest ≡ Some next → length next ≡ 0 → end ≡ size → HasFront size bytes found end None
+end_front size end bytes rest [] found e s l q = front_here size bytes rest found end None e (subst (λ o. EndsAt size o end None) (sym s) (q, refl))
+end_front size end bytes rest (b ∷ bs) found e s l q = absurd (omega arith)
+
+pub fault_front : (size end : ℕ) (bytes rest next : List ℕ) (found : List Placed) (form : Option UnsupportedForm) → Extends size bytes found rest → skipped Between rest ≡ Some next → 0 < length next → token_of next ≡ None
+    → end + length next ≡ size + fault_of next → ((b : ℕ) (bs : List ℕ) → next ≡ b ∷ bs → form ≡ form_at b bs) → HasFront size bytes found end form
+fault_front size end bytes rest [] found form e s l h p f = absurd (omega arith)
+fault_front size end bytes rest (b ∷ bs) found form e s l h p f = front_here size bytes rest found end form e (subst (λ o. EndsAt size o end form) (sym s) (h, (p, f b bs refl)))
 
 pub ends_found : (size : ℕ) (bytes rest next : List ℕ) (found : List Placed) → Extends size bytes found rest → skipped Between rest ≡ Some next → length next ≡ 0 → HasTokens size bytes found
 ends_found size bytes rest next found e s l = subst (HasTokens size bytes) (append_nothing found) (e.forth [] (at_end size rest next s l))

@@ -16,7 +16,7 @@ use Rattle.verilog_read.specs.Outcome.{IsPlaced, IsShort}
 use Rattle.verilog_read.specs.Seen.{seen}
 use Rattle.verilog_read.proofs.Loop.{length-seen}
 
-all_read : (ts : List code.Placed) → read (seen ts) ≡ finished (module_of (length ts) (seen ts))
+pub all_read : (ts : List code.Placed) → read (seen ts) ≡ finished (module_of (length ts) (seen ts))
 all_read ts = ap (λ (n : ℕ). finished (module_of n (seen ts))) (length-seen ts)
 
 none_left : (rest : List code.Placed) → eqb (length rest) 0 ≡ true → rest ≡ []

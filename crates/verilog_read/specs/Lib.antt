@@ -5,3 +5,6 @@ pub mod Tokens
 pub mod Expressions
 pub mod Lists
 pub mod Outcome
+pub mod Faults
+pub mod Forms
+pub mod Places

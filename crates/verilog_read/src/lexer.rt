@@ -7,18 +7,21 @@ ghost use Rattle.verilog_tree.specs.Bytes as kinds;
 ghost use Rattle.verilog_tree.specs.Blanks as blanks;
 ghost use Rattle.verilog_tree.specs.Lex as spec;
 ghost use Rattle.verilog_tree.specs.Lex.{HasTokens};
+ghost use Rattle.verilog_read.specs.Places.{HasFront};
 ghost use Rattle.verilog_read.specs.Seen.{sign_seen, token_seen, seen};
 ghost use Rattle.verilog_read.specs.Runs.{passes_class, IsFine, AllPass, word_of, number_of, token_of, value_after};
 
+use crate::fault::fault_in;
+use crate::refusal::{UnsupportedForm, form_of_bytes};
 use crate::token::{Placed, Sign, Token};
 use core_host::Name;
 use std::alloc::{AllocError, Global};
 
 /// The most bytes of a word.
-const LONGEST_WORD: usize = 255;
+pub const LONGEST_WORD: usize = 255;
 
 /// The most digits of a number.
-const LONGEST_NUMBER: usize = 9;
+pub const LONGEST_NUMBER: usize = 9;
 
 /// Behind `//`: the text from the end of the comment on.
 fn past_line(bytes: &[u8]) -> &[u8]
@@ -83,7 +86,7 @@ pub enum Class {
 }
 
 /// What a digit stands for, in any base up to 16, and else 16.
-fn digit(b: u8) -> u8
+pub fn digit(b: u8) -> u8
     ensures { (spec.in_base 16 b ≡ true → result ≡ digit_value b) × (spec.in_base 16 b ≡ false → result ≡ 16) }
 {
     match b {
@@ -102,7 +105,7 @@ pub fn is_letter(b: u8) -> bool
 }
 
 /// Whether a byte is a decimal digit.
-fn is_digit(b: u8) -> bool
+pub fn is_digit(b: u8) -> bool
     ensures { result ≡ kinds.is_digit b }
 {
     b.is_ascii_digit()
@@ -121,7 +124,7 @@ fn passes(class: Class, b: u8) -> bool
 }
 
 /// The text behind the longest front that passes.
-fn behind(class: Class, bytes: &[u8]) -> &[u8]
+pub fn behind(class: Class, bytes: &[u8]) -> &[u8]
     requires { IsFine class }
     ensures same { kinds.behind (passes_class class) bytes.now ≡ result.now }
     ensures shorter { length result.now ≤ length bytes.now }
@@ -173,7 +176,7 @@ fn literal_value(base: u8, digits: &[u8], most: u64) -> Option<u64>
 }
 
 /// `value * base + digit`, unless it is more than `most`.
-fn next_value(value: u64, base: u8, digit: u8, most: u64) -> Option<u64>
+pub fn next_value(value: u64, base: u8, digit: u8, most: u64) -> Option<u64>
     ensures { MatchOption result (most < value * base + digit) (λ v. (v ≡ value * base + digit) × (v ≤ most)) }
 {
     let next = value
@@ -203,7 +206,7 @@ fn word(alloc: Global, bytes: &[u8]) -> Result<Option<(Token, &[u8])>, AllocErro
 }
 
 /// The base that a letter names.
-fn base_of(b: u8) -> Option<u8>
+pub fn base_of(b: u8) -> Option<u8>
     ensures { result ≡ spec.base_of b }
 {
     match b {
@@ -265,7 +268,7 @@ fn sign(b: u8, more: &[u8]) -> Option<(Sign, &[u8])>
 }
 
 /// The largest number of a width.
-fn most_of(width: u32) -> u64
+pub fn most_of(width: u32) -> u64
     requires { width ≤ 64 }
     ensures { result + 1 ≡ 2 ^ width }
 {
@@ -306,7 +309,7 @@ fn literal(width: u32, bytes: &[u8]) -> Option<(Token, &[u8])>
 }
 
 /// The width that digits before `'` give.
-fn width_of(digits: &[u8]) -> Option<u32>
+pub fn width_of(digits: &[u8]) -> Option<u32>
     requires digits { AllPass kinds.is_digit digits.now }
     requires some { 0 < length digits.now }
     ensures { MatchOption result (spec.is_size digits.now ≡ false) (λ w. (spec.is_size digits.now ≡ true) × (w ≡ digits_value 10 digits.now) × (w ≤ 64)) }
@@ -369,95 +372,23 @@ fn token(alloc: Global, bytes: &[u8]) -> Result<Option<(Token, &[u8])>, AllocErr
     }
 }
 
-/// How many bytes a text has before the byte by which it begins with no token. At a sign that is
-/// none of the language it is 0.
-fn fault_in(bytes: &[u8]) -> usize
-    ensures { result ≤ length bytes.now }
-{
-    let rest = behind(Class::Digits, bytes);
-    let digits = &bytes[..bytes.len() - rest.len()];
-    let fault = match rest {
-        _ if digits.is_empty() => fault_in_word(bytes),
-        [b'\'', after @ ..] => fault_in_literal(digits, after),
-        _ => LONGEST_NUMBER,
-    };
-    fault.min(bytes.len())
-}
-
-/// The place of the fault in a word, which is too long, or in a sign.
-fn fault_in_word(bytes: &[u8]) -> usize {
-    let rest = behind(Class::Word, bytes);
-    if rest.len() + LONGEST_WORD < bytes.len() {
-        LONGEST_WORD
-    } else {
-        0
-    }
-}
-
-/// The place of the fault in a literal, given its size and what stands behind `'`.
-fn fault_in_literal(size: &[u8], after: &[u8]) -> usize {
-    let Some(width) = short_size(size) else {
-        return size.len();
-    };
-    let base_at = size.len() + 1;
-    let [b, digits @ ..] = after else {
-        return base_at;
-    };
-    match base_of(*b) {
-        Some(base) => base_at + 1 + fault_in_digits(base, most_of(width), digits),
-        None => base_at,
-    }
-}
-
-/// The size that one or two digits are.
-fn short_size(digits: &[u8]) -> Option<u32>
-    ensures { IfSome result (λ width. width ≤ 64) }
-{
-    let width = match digits {
-        [a] => u32::from(digit(*a)),
-        [a, b] if *a != b'0' => u32::from(digit(*a)) * 10 + u32::from(digit(*b)),
-        _ => return None,
-    };
-    if width == 0 || width > 64 {
-        None
-    } else {
-        Some(width)
-    }
-}
-
-/// The place of the fault in a literal's digits: the first byte that is no digit, where one must
-/// stand, or the digit with which the value is more than `most`.
-fn fault_in_digits(base: u8, most: u64, digits: &[u8]) -> usize
-    ensures { result ≤ length digits.now }
-{
-    let mut value = 0;
-    for (at, b) in digits.iter().enumerate() {
-        let digit = digit(*b);
-        if digit < base {
-            value = match next_value(value, base, digit, most) {
-                Some(next) => next,
-                None => return at,
-            };
-        } else if at == 0 || *b != b'_' {
-            return at;
-        }
-    }
-    digits.len()
-}
-
 /// The tokens of a text up to its first fault: a malformed token, or a comment that does not end.
 #[derive(Drop)]
 pub struct Scanned {
     pub found: Vec<Placed>,
-    /// The place of the fault in a malformed token, and else the end of the text.
+    /// The place of the fault, and else the end of the text.
     pub end: u32,
+    /// The form of the sign at the fault, if it is one that the language lacks.
+    pub form: Option<UnsupportedForm>,
     /// Whether there is no fault.
     pub whole: bool,
 }
 
 /// The tokens of a text with their places, up to the first that is malformed.
 pub fn tokens(alloc: Global, bytes: &[u8]) -> Result<Scanned, AllocError>
-    requires { length bytes.now < 2 ^ 32 }
+    requires { length bytes.now ≤ 16777216 }
+    // They end at the end of the text or at its first fault.
+    ensures front { IfOk result (λ r. HasFront (length bytes.now) bytes.now (seen r.found.items) r.end r.form) }
     // Where there is no fault, they are those of the text.
     ensures found { IfOk result (λ r. r.whole ≡ true → HasTokens (length bytes.now) bytes.now (seen r.found.items)) }
     // In a text that has tokens there is no fault, and no other tokens.
@@ -471,6 +402,7 @@ pub fn tokens(alloc: Global, bytes: &[u8]) -> Result<Scanned, AllocError>
             return Ok(Scanned {
                 found,
                 end,
+                form: None,
                 whole: false,
             });
         };
@@ -479,6 +411,7 @@ pub fn tokens(alloc: Global, bytes: &[u8]) -> Result<Scanned, AllocError>
             return Ok(Scanned {
                 found,
                 end: at,
+                form: None,
                 whole: true,
             });
         }
@@ -487,6 +420,7 @@ pub fn tokens(alloc: Global, bytes: &[u8]) -> Result<Scanned, AllocError>
             return Ok(Scanned {
                 found,
                 end: end as u32,
+                form: form_of_bytes(next),
                 whole: false,
             });
         };

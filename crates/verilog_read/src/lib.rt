@@ -7,6 +7,7 @@
 
 mod cursor;
 mod expr;
+mod fault;
 mod lexer;
 mod module;
 mod read;
@@ -15,6 +16,3 @@ mod token;
 
 pub use read::read_module;
 pub use refusal::{ReadRefusal, UnsupportedForm};
-
-#[cfg(test)]
-mod tests;

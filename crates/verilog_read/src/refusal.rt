@@ -1,8 +1,14 @@
+ghost use Rattle.std.specs.Prelude.{◌≡◌, ◌<◌, ◌∷◌, ℕ, List, length};
+ghost use Rattle.verilog_tree.specs.Lexemes.{Word};
+ghost use Rattle.verilog_read.specs.Forms.{form_of, form_at};
 ghost use Rattle.verilog_read.specs.Outcome.{IsPlaced};
+ghost use Rattle.verilog_read.specs.Places.{refusal_at, wrong_at};
+ghost use Rattle.verilog_read.specs.Seen.{seen, token_seen};
 
 use crate::cursor::is_unsupported;
 use crate::lexer::is_letter;
 use crate::token::{Placed, Token};
+use core_host::Name;
 use thiserror::Error;
 
 /// Why a text was not read. A place is the offset of a byte in the text.
@@ -48,31 +54,35 @@ pub enum UnsupportedForm {
     Deep,
 }
 
-/// The refusal at the next of the tokens, or at their end.
-pub fn refusal(bytes: &[u8], tokens: &[Placed], end: u32) -> ReadRefusal
-    ensures { IsPlaced result }
+/// The refusal at the next of the tokens, or behind them, where this form stands.
+pub fn refusal(tokens: &[Placed], end: u32, form: Option<UnsupportedForm>) -> ReadRefusal
+    ensures { result ≡ wrong_at (seen tokens.now) end form }
 {
     match tokens {
         [first, ..] => refusal_at(first.at, form_of_token(&first.token)),
-        [] => refusal_at(end, form_of_bytes(bytes.get(end as usize..).unwrap_or(&[]))),
+        [] => refusal_at(end, form),
     }
 }
 
 /// The refusal of the token at this place, which makes an expression too deep. At the end of the
 /// tokens there is none.
-pub fn too_deep(bytes: &[u8], at: u32, end: u32) -> ReadRefusal
+pub fn too_deep(at: u32, end: u32, form: Option<UnsupportedForm>) -> ReadRefusal
     ensures { IsPlaced result }
 {
     if at < end {
-        refusal_at(at, Some(UnsupportedForm::Deep))
+        ReadRefusal::Unsupported {
+            at,
+            form: UnsupportedForm::Deep,
+        }
     } else {
-        refusal(bytes, &[], end)
+        refusal_at(end, form)
     }
 }
 
 /// The refusal at a place, with the form of what stands there.
-fn refusal_at(at: u32, form: Option<UnsupportedForm>) -> ReadRefusal
-    ensures { IsPlaced result }
+pub fn refusal_at(at: u32, form: Option<UnsupportedForm>) -> ReadRefusal
+    ensures same { result ≡ refusal_at at form }
+    ensures placed { IsPlaced result }
 {
     match form {
         Some(form) => ReadRefusal::Unsupported { at, form },
@@ -81,31 +91,54 @@ fn refusal_at(at: u32, form: Option<UnsupportedForm>) -> ReadRefusal
 }
 
 /// The form of a token, if the language lacks it here.
-fn form_of_token(token: &Token) -> Option<UnsupportedForm> {
+fn form_of_token(token: &Token) -> Option<UnsupportedForm>
+    ensures { result ≡ form_of (token_seen token.now) }
+{
     match token {
         Token::Number(_) => Some(UnsupportedForm::Bare),
-        Token::Word(word) => {
-            if is_unsupported(word) {
-                Some(UnsupportedForm::Word)
-            } else {
-                None
-            }
-        }
+        Token::Word(word) => form_of_word(word),
         _ => None,
     }
 }
 
-/// The form that a text begins with, if it begins with a token that the language lacks.
-fn form_of_bytes(bytes: &[u8]) -> Option<UnsupportedForm> {
-    match bytes {
-        [b'*' | b'/' | b'%', ..] => Some(UnsupportedForm::Times),
-        [b'<', b'<', ..] | [b'>', b'>', ..] => Some(UnsupportedForm::Shift),
-        [b'>', ..] | [b'!', b'=', ..] | [b'=', b'=', b'=', ..] => Some(UnsupportedForm::Compare),
-        [b'!', ..] | [b'&', b'&', ..] | [b'|', b'|', ..] => Some(UnsupportedForm::Logic),
-        [b'~', b'&' | b'|' | b'^', ..] | [b'^', b'~', ..] => Some(UnsupportedForm::Logic),
-        [b'#', ..] => Some(UnsupportedForm::Delay),
-        [b'$', first, ..] if is_letter(*first) => Some(UnsupportedForm::System),
-        [b'`', ..] => Some(UnsupportedForm::Directive),
+/// The form of a word.
+fn form_of_word(word: &Name) -> Option<UnsupportedForm>
+    ensures { result ≡ form_of (Word word.now) }
+{
+    if is_unsupported(word) {
+        Some(UnsupportedForm::Word)
+    } else {
+        None
+    }
+}
+
+/// The form that a text begins with, if it begins with a sign that the language lacks.
+pub fn form_of_bytes(bytes: &[u8]) -> Option<UnsupportedForm>
+    requires { 0 < length bytes.now }
+    ensures { (b : ℕ) (bs : List ℕ) → bytes.now ≡ b ∷ bs → result ≡ form_at b bs }
+{
+    form_of_sign(bytes[0], &bytes[1..])
+}
+
+/// The form of a sign whose first byte is `b`, by the bytes behind it.
+fn form_of_sign(b: u8, more: &[u8]) -> Option<UnsupportedForm>
+    ensures { result ≡ form_at b more.now }
+{
+    match (b, more) {
+        (b'*' | b'/' | b'%', _) => Some(UnsupportedForm::Times),
+        (b'<', [b'<', ..]) => Some(UnsupportedForm::Shift),
+        (b'>', [b'>', ..]) => Some(UnsupportedForm::Shift),
+        (b'>', _) => Some(UnsupportedForm::Compare),
+        (b'=', [b'=', b'=', ..]) => Some(UnsupportedForm::Compare),
+        (b'!', [b'=', ..]) => Some(UnsupportedForm::Compare),
+        (b'!', _) => Some(UnsupportedForm::Logic),
+        (b'&', [b'&', ..]) => Some(UnsupportedForm::Logic),
+        (b'|', [b'|', ..]) => Some(UnsupportedForm::Logic),
+        (b'~', [b'&' | b'|' | b'^', ..]) => Some(UnsupportedForm::Logic),
+        (b'^', [b'~', ..]) => Some(UnsupportedForm::Logic),
+        (b'#', _) => Some(UnsupportedForm::Delay),
+        (b'$', [first, ..]) if is_letter(*first) => Some(UnsupportedForm::System),
+        (b'`', _) => Some(UnsupportedForm::Directive),
         _ => None,
     }
 }

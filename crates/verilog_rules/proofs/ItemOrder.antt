@@ -101,6 +101,37 @@ looped m k l =
     let u = number_drives m r.name k f.0 r.number f.1 in
     record { drive = f.0; is = f.1; loops = subst (λ z. Depends m f.0.0 z) (sym u.0) r.depends }
 
+-- ---- a name that depends on itself is on a loop
+
+leads_join : (edges : List (List ℕ)) (x y z : ℕ) → Leads edges x y → Leads edges y z → Leads edges x z
+leads_join edges x y z l (direct e) = further l e
+leads_join edges x y z l (further {y = w} k e) = further (leads_join edges x y w l k) e
+
+-- a name that depends on another has a driver
+drives : (m : Plain) (x y : List ℕ) → Depends m x y → (e : Expr) × (source_of m x ≡ Driven e)
+drives m x y (by_driver {e = e} s q) = (e, s)
+drives m x z (by_name {y = y} a b) = drives m x y a
+
+-- what a name depends on, if it has a number, is led to from the item that drives the name
+pub leads_to : (m : Plain) (x y : List ℕ) → Depends m x y → (k n : ℕ) → item_number m x ≡ Some k → item_number m y ≡ Some n → Leads (graph m) k n
+leads_to m x y (by_driver {e = e} s q) k n p r =
+    let d = driven m x e s in
+    let same : k ≡ d.0 = (let h = sym p ∙ d.1.number in cc) in
+    direct (subst (λ i. Edge (graph m) i n) (sym same) (needed m d.0 (x, e) y n d.1.drive q r))
+leads_to m x z (by_name {y = y} a b) k n p r =
+    let f = drives m y z b in
+    let d = driven m y f.0 f.1 in
+    leads_join (graph m) k d.0 n (leads_to m x y a k d.0 p d.1.number) (leads_to m y z b d.0 n d.1.number r)
+
+pub back_number : (m : Plain) (x : List ℕ) → Depends m x x → (k : ℕ) × (item_number m x ≡ Some k)
+back_number m x d = let f = drives m x x d in let k = driven m x f.0 f.1 in (k.0, k.1.number)
+
+pub loop_depends : (m : Plain) (x : List ℕ) (k : ℕ) → item_number m x ≡ Some k → Leads (graph m) k k → Depends m x x
+loop_depends m x k h l =
+    let p = looped m k l in
+    let s = number_drives m x k p.drive h p.is in
+    subst (λ y. Depends m y y) s.0 p.loops
+
 -- ---- places in a list
 
 abbrev place_if : Bool → (later : ℕ) → ℕ

@@ -1,17 +1,21 @@
 -- What a refusal by one rule says of all of them.
-use Rattle.std.proofs.Common.{◌≡◌, ◌⊎◌, [], ◌∷◌, ◌++◌, refl, sym, inl, inr, Some}
+use Rattle.std.proofs.Common.{◌≡◌, ◌⊎◌, ℕ, List, [], ◌∷◌, ◌++◌, refl, sym, inl, inr, Some}
 use Rattle.verilog_tree.specs.declared.tree.Tree.{Tree}
 use Rattle.verilog_mean.specs.declared.refusal.MeanRefusal.{MeanRefusal}
+use Rattle.verilog_mean.specs.declared.refusal.MeanRefusal.TheVariants as mean
 use Rattle.verilog_mean.specs.declared.refusal.MeanRefusal.TheVariants.{NoMemory}
 use Rattle.verilog_mean.specs.Erase.{plain_tree}
 use Rattle.verilog_mean.specs.Names.{names_twice, bad_sizes, names_unknown, Refusals}
 use Rattle.verilog_mean.specs.Kinds.{kinds_differ}
 use Rattle.verilog_mean.specs.Widths.{selects_outside, widths_differ}
 use Rattle.verilog_mean.specs.Drivers.{drivers_twice, drivers_missing}
-use Rattle.verilog_mean.specs.Loops.{HasNoLoop}
+use Rattle.verilog_mean.specs.Declarations.{Declaration, declarations}
+use Rattle.verilog_mean.specs.Plain.{Plain}
+use Rattle.verilog_mean.specs.Loops.{FirstLoop, HasNoLoop}
 use Rattle.verilog_mean.specs.Sound.{IsSound}
 use Rattle.verilog_rules.specs.First.{first, Refuses}
-use Rattle.verilog_rules.specs.Refusals.{refusals}
+use Rattle.verilog_rules.specs.LoopPlace.{IsLoop}
+use Rattle.verilog_rules.specs.Refusals.{refusals, IsFirstRefusal}
 
 -- ---- of two lists
 
@@ -107,6 +111,27 @@ not_sound t r (inl e) = inl e
 not_sound t r (inr e) =
     inr (λ s. not_empty (refusals t) r e (no_refusals t s.names_once s.sizes s.names_known s.kinds s.selects s.widths s.drivers_once s.driven))
 
-pub loop_not_sound : (t : Tree) (r : MeanRefusal) → (r ≡ NoMemory) ⊎ (HasNoLoop (plain_tree t) → ⊥) → (r ≡ NoMemory) ⊎ (IsSound t → ⊥)
+-- the first declaration whose name depends on itself is one
+first_loop : (m : Plain) (ds : List Declaration) (at : ℕ) → FirstLoop m ds at → HasNoLoop m → ⊥
+first_loop m [] at h none = absurd h
+first_loop m (d ∷ ds) at (inl h) none = none d.name.text h.0
+first_loop m (d ∷ ds) at (inr h) none = first_loop m ds at h.1 none
+
+loop_is : (t : Tree) (r : MeanRefusal) → IsLoop t r → HasNoLoop (plain_tree t) → ⊥
+loop_is t (mean.Loop at) h none = first_loop (plain_tree t) (declarations t) at h none
+loop_is t _ h none = absurd h
+
+pub loop_not_sound : (t : Tree) (r : MeanRefusal) → (r ≡ NoMemory) ⊎ IsLoop t r → (r ≡ NoMemory) ⊎ (IsSound t → ⊥)
 loop_not_sound t r (inl e) = inl e
-loop_not_sound t r (inr f) = inr (λ s. f s.no_loop)
+loop_not_sound t r (inr h) = inr (λ s. loop_is t r h s.no_loop)
+
+pub loop_first : (t : Tree) (r : MeanRefusal) → refusals t ≡ [] → (r ≡ NoMemory) ⊎ IsLoop t r → IsFirstRefusal t r
+loop_first t r none (inl e) = inl (inl e)
+loop_first t r none (inr h) = inr (none, h)
+
+pub names_known : (t : Tree) → refusals t ≡ [] → names_unknown t ≡ []
+unfolding refusals
+names_known t h =
+    let a = both (names_twice t) _ h in
+    let b = both (bad_sizes t) _ a.1 in
+    (both (names_unknown t) _ b.1).0

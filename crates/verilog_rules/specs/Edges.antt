@@ -1,5 +1,5 @@
 -- The graph of a module's items: each needs those that give the names in its driver their values.
-use Rattle.std.specs.Prelude.{ℕ, List, [], ◌∷◌, ◌++◌, Option, Some, None}
+use Rattle.std.specs.Prelude.{◌≡◌, ℕ, List, [], ◌∷◌, ◌++◌, Option, Some, None}
 use Rattle.verilog_tree.specs.declared.expr.Expr as tree
 use Rattle.verilog_tree.specs.declared.tree.Driver.{Driver}
 use Rattle.verilog_tree.specs.declared.tree.Item as tree_item
@@ -7,8 +7,10 @@ use Rattle.verilog_tree.specs.declared.tree.Item.TheVariants as item
 use Rattle.verilog_mean.specs.Plain.{Expr, Exprs, Item}
 use Rattle.verilog_mean.specs.Plain.Expr.{Literal, Named, Select, Cell, Not, Join, Binary, Choice}
 use Rattle.verilog_mean.specs.Plain.Exprs.{NoPart, Part}
-use Rattle.verilog_mean.specs.Erase.{plain}
+use Rattle.verilog_mean.specs.Erase.{plain, plain_items, plain_tree}
 use Rattle.verilog_mean.specs.Order.{drive_of}
+use Rattle.verilog_tree.specs.declared.tree.Tree.{Tree}
+use Rattle.verilog_rules.specs.Sources.{item_number}
 use denote.Bor.{Bor}
 
 abbrev pub with_number : List ℕ → Option ℕ → List ℕ
@@ -60,3 +62,7 @@ driver_of (item.Always at s) = None
 abbrev pub maybe_driver : Option (Bor Driver) → Option Driver
 maybe_driver None = None
 maybe_driver (Some d) = Some d.now
+
+-- the graph of a tree
+abbrev pub IsGraph : Tree → List (List ℕ) → Type 0
+IsGraph t edges = edges ≡ edges_in (item_number (plain_tree t)) (plain_items t.items)

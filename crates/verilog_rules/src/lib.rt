@@ -18,6 +18,3 @@ mod table;
 mod widths;
 
 pub use rules::check_tree;
-
-#[cfg(test)]
-mod tests;

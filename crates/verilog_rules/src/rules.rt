@@ -141,7 +141,7 @@ fn check_rules(alloc: Global, tree: &Tree) -> Result<(), MeanRefusal>
 /// # Errors
 ///
 /// The first refusal of the first rule that refuses the tree; `MeanRefusal::NoMemory`.
-#[tactic(auto, using(crate::proofs::Refused::loop_not_sound, crate::proofs::BitsFew::few_items))]
+#[tactic(auto, using(crate::proofs::Refused::loop_not_sound, crate::proofs::Refused::loop_first, crate::proofs::Refused::names_known, crate::proofs::BitsFew::few_items))]
 pub fn check_tree(alloc: Global, tree: Tree) -> Result<Checked, MeanRefusal>
     requires { IsBounded tree }
     ensures checked { IfOk result (λ c. IsChecked c) }

@@ -1,10 +1,11 @@
-use Rattle.std.proofs.Common.{◌≤◌, ◌∙◌, sym, ap, arith, length, ◌-◌, subst, List, refl}
+use Rattle.std.proofs.Common.{◌≤◌, ◌∙◌, sym, ap, arith, length, ◌-◌, ◌+◌, ◌≡◌, subst, List, refl}
 use Rattle.std.proofs.lemmas.Bool.{eqb-true}
 use Rattle.verilog_tree.specs.Lexemes.{Placed}
 use Rattle.verilog_read.specs.Seen.{seen, token_seen}
+use Rattle.verilog_read.specs.Faults.{fault_of}
 use Rattle.verilog_read.specs.Tokens.{Extends}
 use Rattle.verilog_read.proofs.Values.{some_left}
-use Rattle.verilog_read.proofs.Tokens.{goes_on, ends_found, ends_only, stops_gap, stops_token, seen-push}
+use Rattle.verilog_read.proofs.Tokens.{goes_on, ends_found, ends_only, stops_gap, stops_token, seen-push, gap_front, end_front, fault_front}
 use Rattle.verilog_read.proofs.lexer.tokens.Goals as goal
 
 pub returns-in_default-clause-only : goal.returns-in_default-clause-only
@@ -20,6 +21,21 @@ pub returns-in_default-2-clause-only : goal.returns-in_default-2-clause-only
 returns-in_default-2-clause-only c = λ ts h.
     let none = rw c.in_default-2.is at c.in_ok-token.ensures.token in
     absurd (stops_token (length c.args.bytes.now) c.args.bytes.now c.loop-next.rest.now c.in-Some.next.now (seen c.loop-next.found.items) ts c.loop-next.invariant.0 c.in-Some.ensures.same (some_left c.in-Some.next.now (sym c.if-is_empty.ensures)) none h)
+
+pub returns-in_default-clause-front : goal.returns-in_default-clause-front
+returns-in_default-clause-front c = gap_front (length c.args.bytes.now) c.args.bytes.now c.loop-next.rest.now (seen c.loop-next.found.items) c.loop-next.invariant.0 c.in_default.ensures.same
+
+pub returns-then-is_empty-clause-front : goal.returns-then-is_empty-clause-front
+returns-then-is_empty-clause-front c =
+    let none : length c.in-Some.next.now ≡ 0 = eqb-true (length c.in-Some.next.now) 0 (sym c.if-is_empty.ensures) in
+    end_front (length c.args.bytes.now) _ c.args.bytes.now c.loop-next.rest.now c.in-Some.next.now (seen c.loop-next.found.items) c.loop-next.invariant.0 c.in-Some.ensures.same none (omega (arith, none))
+
+pub returns-in_default-2-clause-front : goal.returns-in_default-2-clause-front
+returns-in_default-2-clause-front c =
+    let none = rw c.in_default-2.is at c.in_ok-token.ensures.token in
+    let fits : length c.in-Some.next.now ≤ length c.args.bytes.now = omega (arith, c.in-Some.ensures.shorter, c.loop-next.invariant.1) in
+    fault_front (length c.args.bytes.now) _ c.args.bytes.now c.loop-next.rest.now c.in-Some.next.now (seen c.loop-next.found.items) _ c.loop-next.invariant.0 c.in-Some.ensures.same
+    (some_left c.in-Some.next.now (sym c.if-is_empty.ensures)) none (omega (arith, fits, c.fault_in.ensures.place)) c.form_of_bytes.ensures
 
 pub loop-next-preserved : goal.loop-next-preserved
 loop-next-preserved c =

@@ -1,0 +1,60 @@
+-- The place of a refusal. The tokens of a text are read up to its first fault, and the refusal is at the first of them with which
+-- nothing goes on, or at the fault.
+use Rattle.std.specs.Prelude.{◌≡◌, ℕ, ◌+◌, List, [], ◌∷◌, length, Option, Some, None, Result, Ok, Err}
+use Rattle.verilog_tree.specs.Lexemes.{Placed}
+use Rattle.verilog_tree.specs.Blanks.{Between, skipped}
+use Rattle.verilog_tree.specs.Lex.{token_at}
+use Rattle.verilog_tree.specs.Readers.{Stop, Wrong, Deep}
+use Rattle.verilog_tree.specs.Read.{read}
+use Rattle.verilog_tree.specs.declared.tree.Tree.{Tree}
+use Rattle.verilog_read.specs.declared.refusal.UnsupportedForm.{UnsupportedForm}
+use Rattle.verilog_read.specs.declared.refusal.ReadRefusal.{ReadRefusal}
+use Rattle.verilog_read.specs.declared.refusal.ReadRefusal.TheVariants.{TooLong, Unsupported, Text, NoMemory}
+use Rattle.verilog_read.specs.Faults.{fault_at}
+use Rattle.verilog_read.specs.Forms.{form_of, form_at}
+use Rattle.verilog_read.specs.Outcome.{IsPlaced}
+
+-- ---- the tokens of a text up to its first fault
+
+-- What stands behind them: nothing, or a comment that does not end, where the fault is at the text's end; or a byte by which no token begins.
+-- There the fault is in the malformed token, which is of no form, or it is a sign of a form that the language lacks.
+abbrev pub EndsAt : (size : ℕ) → Option (List ℕ) → (end : ℕ) → Option UnsupportedForm → Type 0
+EndsAt size None end form = (end ≡ size) × (form ≡ None)
+EndsAt size (Some []) end form = (end ≡ size) × (form ≡ None)
+EndsAt size (Some (b ∷ bs)) end form = (token_at b bs ≡ None) × ((end + length (b ∷ bs) ≡ size + fault_at b bs) × (form ≡ form_at b bs))
+
+abbrev pub HasFront : (size : ℕ) → List ℕ → List Placed → (end : ℕ) → Option UnsupportedForm → Type 0
+HasFront size bytes [] end form = EndsAt size (skipped Between bytes) end form
+HasFront size bytes (t ∷ ts) end form = (b : ℕ) × (bs rest : List ℕ) ×
+    (skipped Between bytes ≡ Some (b ∷ bs)) × (t.at + length (b ∷ bs) ≡ size) × (token_at b bs ≡ Some (t.lexeme, rest)) × HasFront size rest ts end form
+
+-- ---- the refusal
+
+abbrev pub refusal_at : (at : ℕ) → Option UnsupportedForm → ReadRefusal
+refusal_at at None = Text at
+refusal_at at (Some form) = Unsupported at form
+
+-- at the first of the tokens that are left, or at the fault behind them
+abbrev pub wrong_at : List Placed → (end : ℕ) → Option UnsupportedForm → ReadRefusal
+wrong_at [] end form = refusal_at end form
+wrong_at (t ∷ ts) end form = refusal_at t.at (form_of t.lexeme)
+
+-- where reading the tokens stops; of an expression that is too deep this says only that a place is told
+abbrev pub StopsAt : Result Tree Stop → (end : ℕ) → Option UnsupportedForm → ReadRefusal → Type 0
+StopsAt (Ok t) end form r = r ≡ refusal_at end form
+StopsAt (Err (Wrong ts)) end form r = r ≡ wrong_at ts end form
+StopsAt (Err (Deep ts)) end form r = IsPlaced r
+
+pub record IsRefused (bytes : List ℕ) (r : ReadRefusal) : Type 0 where
+  pub tokens : List Placed
+  pub end : ℕ
+  pub form : Option UnsupportedForm
+  pub front : HasFront (length bytes) bytes tokens end form
+  pub stops : StopsAt (read tokens) end form r
+
+-- a refusal at a place is at that one
+abbrev pub IsInPlace : List ℕ → ReadRefusal → Type 0
+IsInPlace bytes (TooLong len) = Unit {0}
+IsInPlace bytes NoMemory = Unit {0}
+IsInPlace bytes (Unsupported at form) = IsRefused bytes (Unsupported at form)
+IsInPlace bytes (Text at) = IsRefused bytes (Text at)
