@@ -9,6 +9,3 @@ mod refusal;
 
 pub use read::read_config;
 pub use refusal::{ConfigRefusal, KeyPath, Want};
-
-#[cfg(test)]
-mod tests;

@@ -1,5 +1,16 @@
-//! Calls that need plug-ins: the command `rules` over boxes that say what the table of kinds says. Tests alone.
+//! The tests of the calls over a host and of the rules of acceptance over plug-ins. Tests alone: the crates that they call
+//! have none of their own, and are proved once.
 #![tactic(auto)]
 
 #[cfg(test)]
-mod tests;
+mod calls;
+#[cfg(test)]
+mod hosts;
+#[cfg(test)]
+mod kinds;
+#[cfg(test)]
+mod own;
+#[cfg(test)]
+mod plans;
+#[cfg(test)]
+mod rules;

@@ -5,3 +5,4 @@ pub mod Runs
 pub mod CallEnds
 pub mod Statuses
 pub mod RuleEnds
+pub mod BoxEnds

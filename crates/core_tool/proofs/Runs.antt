@@ -17,7 +17,7 @@ use Rattle.verilog_mean.specs.Erase.{plain_tree}
 use Rattle.verilog_mean.specs.Plain.{Plain}
 use Rattle.verilog_mean.specs.Sound.{IsSound}
 use Rattle.verilog_mean.specs.Zero.{zero_state}
-use Rattle.pipe_refine.specs.Follows.{Follows}
+use Rattle.isa_follow.specs.Follows.{Follows}
 use Rattle.pipe_refine.specs.CoreText.{IsCoreText}
 use Rattle.pipe_refine.specs.Refines.{Refines}
 use Rattle.fixed_core.specs.FixedSet.{fixed_set}

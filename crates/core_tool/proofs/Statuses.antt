@@ -340,3 +340,18 @@ missing_clause rules form files reads reads' writes writes' main main' OutOfMemo
 missing_clause rules form files reads reads' writes writes' main main' Unwritten result h e bytes n c ok m = inr (inl e)
 missing_clause rules form files reads reads' writes writes' main main' (CyclesEnded events cycles) result h e bytes n c ok m = absurd (run_missing form files _ h.text h.cause m)
 missing_clause rules form files reads reads' writes writes' main main' (Stopped cause pc events cycles) result h e bytes n c ok m = absurd (run_missing form files _ h.text h.cause m)
+
+-- a call whose line is written and whose text is not left a proper prefix of the text
+pub unwritten_clause : (rules : Acceptance) (form : Option Form) (files : Option Files) (reads reads' writes writes' : ℕ) (main main' : Option (List ℕ)) (end : CallEnd) (result : Status)
+    → IsEnd rules form files reads reads' writes writes' main main' end → result ≡ status_of end → result ≡ status.WriteFault → GotCutText rules form files main main'
+unwritten_clause rules form files reads reads' writes writes' main main' Unwritten result h is e = inr (inl (h.text, h.cause, h.on_main))
+unwritten_clause rules form files reads reads' writes writes' main main' Written result h is e = cc
+unwritten_clause rules form files reads reads' writes writes' main main' Accepted result h is e = cc
+unwritten_clause rules form files reads reads' writes writes' main main' BadWords result h is e = cc
+unwritten_clause rules form files reads reads' writes writes' main main' (Refused refusal) result h is e = cc
+unwritten_clause rules form files reads reads' writes writes' main main' (RulesRefused refusal) result h is e = cc
+unwritten_clause rules form files reads reads' writes writes' main main' BadFile result h is e = cc
+unwritten_clause rules form files reads reads' writes writes' main main' (BadImage fault) result h is e = cc
+unwritten_clause rules form files reads reads' writes writes' main main' OutOfMemory result h is e = cc
+unwritten_clause rules form files reads reads' writes writes' main main' (CyclesEnded events cycles) result h is e = cc
+unwritten_clause rules form files reads reads' writes writes' main main' (Stopped cause pc events cycles) result h is e = cc

@@ -9,7 +9,7 @@ use Rattle.verilog_tree.specs.declared.tree.Tree.{Tree}
 use Rattle.verilog_tree.specs.Module.{HasOneReading}
 use Rattle.verilog_mean.specs.Erase.{plain_tree}
 use Rattle.verilog_mean.specs.Sound.{IsSound}
-use Rattle.pipe_refine.specs.Follows.{Follows}
+use Rattle.isa_follow.specs.Follows.{Follows}
 use Rattle.pipe_refine.specs.Refines.{Refines}
 use Rattle.fixed_core.specs.FixedSet.{fixed_set}
 use Rattle.fixed_core.specs.Text.{IsFixedCoreText}

@@ -9,3 +9,4 @@ pub mod Files
 pub mod CoreRun
 pub mod Parts
 pub mod Call
+pub mod Boxes

@@ -16,6 +16,7 @@ ghost use Rattle.core_tool.specs.Words.{Gen, Rules, Run, form_of, words_of};
 ghost use Rattle.core_tool.specs.Lines.{cycles_line, image_line, refusal_line, stopped_line};
 ghost use Rattle.core_tool.specs.Files.{Gives, Holds, HoldsImage, IsImageRefusedAs, IsRefusedAs, IsUnread, Misses, MissesFile, Pulled, image_fault, image_name};
 ghost use Rattle.core_tool.specs.Parts.{ForBytes, IsConfigEnd, IsRulesEnd, PulledOne};
+ghost use Rattle.core_tool.specs.Boxes.{HaveTakenAll, IsJudgedSo, IsLeftBy, LeavesBoxes};
 ghost use Rattle.core_tool.specs.Call.{Ends, GotCutText, GotRun, HasLine, HasNoText, IsAnswered, IsCutLine, IsDoneText, IsEnd, IsGen, IsRefusedByRules, IsRules, IsRunStatus, IsUnlessCut};
 
 use crate::Status;
@@ -131,6 +132,11 @@ pub fn core_main<H: Host>(
     ensures reads { H.read_faults host.old ≤ H.read_faults host.new }
     ensures writes { H.write_faults host.old ≤ H.write_faults host.new }
     ensures kept { SameKinds (λ b. kind b) (λ b e. first_fault b e) (λ b e. spec_taken b e) plugs.old.items plugs.new.items }
+    // Which boxes took an entry: under `rules` those that its entries name, up to what refused, and else none.
+    ensures boxes { LeavesBoxes (acceptance_of (λ b. kind b) (λ b e. first_fault b e) (λ b e. spec_taken b e) plugs.old.items)
+        (form_of (words_of words.now)) (H.files host.old) (H.read_faults host.old) (H.read_faults host.new)
+        (IsLeftBy (λ b. kind b) (λ b. taken b) (λ b. spec_now b) (λ b e. first_fault b e) (λ b e. spec_taken b e)
+        plugs.old.items plugs.new.items (form_of (words_of words.now)) (H.files host.old)) result }
 {
     let end = work(alloc, words, plugs, host);
     match push_line(host, &end) {
@@ -160,6 +166,8 @@ fn work<H: Host>(
     ensures reads { H.read_faults host.old ≤ H.read_faults host.new }
     ensures writes { H.write_faults host.old ≤ H.write_faults host.new }
     ensures kept { SameKinds (λ b. kind b) (λ b e. first_fault b e) (λ b e. spec_taken b e) plugs.old.items plugs.new.items }
+    ensures boxes { IsLeftBy (λ b. kind b) (λ b. taken b) (λ b. spec_now b) (λ b e. first_fault b e) (λ b e. spec_taken b e)
+        plugs.old.items plugs.new.items (form_of (words_of words.now)) (H.files host.old) result }
 {
     match Form::of(words) {
         Some(Form::Gen { name }) => generate(alloc, name, host),
@@ -255,6 +263,8 @@ fn try_rules<H: Host>(
     ensures reads { H.read_faults host.old ≤ H.read_faults host.new }
     ensures writes { H.write_faults host.old ≤ H.write_faults host.new }
     ensures kept { SameKinds (λ b. kind b) (λ b e. first_fault b e) (λ b e. spec_taken b e) plugs.old.items plugs.new.items }
+    ensures boxes { IsLeftBy (λ b. kind b) (λ b. taken b) (λ b. spec_now b) (λ b e. first_fault b e) (λ b e. spec_taken b e)
+        plugs.old.items plugs.new.items (Some (Rules name.now)) (H.files host.old) result }
 {
     let config = match configure(alloc, Takes::All, name, host) {
         Ok(config) => config,
@@ -277,6 +287,10 @@ fn judge(alloc: Global, config: &Config, plugs: &mut Vec<Box<dyn Plugin>>) -> Re
     ensures accepted { IfOk result (λ u. (acceptance_of (λ b. kind b) (λ b e. first_fault b e) (λ b e. spec_taken b e) plugs.old.items).accepts config.now) }
     ensures refused { IfErr result (λ e. IsRulesEnd (acceptance_of (λ b. kind b) (λ b e. first_fault b e) (λ b e. spec_taken b e) plugs.old.items) config.now e) }
     ensures kept { SameKinds (λ b. kind b) (λ b e. first_fault b e) (λ b e. spec_taken b e) plugs.old.items plugs.new.items }
+    ensures took { IfOk result (λ u. HaveTakenAll (λ b. kind b) (λ b. taken b) (λ b. spec_now b) (λ b e. first_fault b e) (λ b e. spec_taken b e)
+        plugs.old.items plugs.new.items config.now) }
+    ensures left { IfErr result (λ e. IsJudgedSo (λ b. kind b) (λ b. taken b) (λ b. spec_now b) (λ b e. first_fault b e) (λ b e. spec_taken b e)
+        plugs.old.items plugs.new.items config.now e) }
 {
     match accept(alloc, config, plugs) {
         Ok(_) => Ok(()),

@@ -13,6 +13,3 @@ mod words;
 
 pub use call::core_main;
 pub use status::Status;
-
-#[cfg(test)]
-mod tests;

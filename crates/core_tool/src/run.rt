@@ -15,15 +15,14 @@ ghost use Rattle.core_tool.specs.Parts.{IsImageEnd, IsLoaded, IsSimulated, Pulle
 use crate::ends::{CallEnd, ImageFault};
 use crate::options::Options;
 use bus_law::Mem;
-use core_host::{Host, Port, ReadEnd, TextHost, read_file};
+use core_host::{Host, List, Port, ReadEnd, TextHost, read_file};
 use core_sim::{Ended, RunOpts, SimRefusal, run_tree};
 use fixed_core::push_core;
 use image_load::{ImageRefusal, MOST_BYTES, load_raw};
 use stage_map::MemShape;
 use std::alloc::{AllocError, Global};
 use verilog_load::{TextRefusal, load_text};
-use verilog_mean::{Checked, MeanRefusal};
-use verilog_read::ReadRefusal;
+use verilog_mean::Checked;
 
 /// The room for the core's text, in bytes: one more than the longest text that is read.
 const TEXT_ROOM: u32 = 16_777_217;
@@ -105,12 +104,8 @@ fn load_own(alloc: Global, text: &[u8], reset_pc: u32) -> Result<Checked, AllocE
 {
     match load_text(alloc, text) {
         Ok(checked) => Ok(checked),
-        Err(TextRefusal::Unread(refusal)) => match refusal {
-            ReadRefusal::NoMemory => Err(AllocError),
-            _ => unreachable!(),
-        },
-        Err(TextRefusal::Unsound(refusal)) => match refusal {
-            MeanRefusal::NoMemory => Err(AllocError),
+        Err(refusal) => match refusal {
+            TextRefusal::NoMemory => Err(AllocError),
             _ => unreachable!(),
         },
     }
@@ -157,9 +152,9 @@ pub fn simulate<H: Host>(
     let opts = RunOpts {
         trace: options.trace,
         cycles: options.cycles,
-        delays,
+        delays: List::of(delays),
     };
-    match run_tree(alloc, checked, memory, opts, host) {
+    match run_tree(alloc, checked, memory, &opts, host) {
         Ok(Ended::CyclesEnded { events, cycles }) => CallEnd::CyclesEnded { events, cycles },
         Ok(
             Ended::Stopped {

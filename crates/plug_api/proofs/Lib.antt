@@ -7,3 +7,5 @@ pub mod Said
 pub mod Accepts
 pub mod Verdicts
 pub mod OneRefusal
+pub mod Decided
+pub mod Sound

@@ -292,3 +292,15 @@ abbrev pub IsLeftShort : {B : Type 0} → (kind : B → List ℕ) → (taken : B
     → (spec : B → PlugEntry → PlugSpec) → (old new : List B) → Config → Type 0
 IsLeftShort kind taken now fault spec old new cfg =
     (new ≡ old) ⊎ ((count : ℕ) × (count ≤ length cfg.entries) × HaveTaken kind taken now fault spec old new cfg.entries count)
+
+-- no box finds want of memory in an entry
+abbrev pub AreSound : {B : Type 0} → (fault : B → PlugEntry → Option ParamFault) → (boxes : List B) → Type 0
+AreSound {B = B} finds boxes = (d : B) (k : ℕ) → k < length boxes → (e : PlugEntry) → finds (get_or boxes k d) e ≡ Some fault.NoMemory → ⊥
+
+-- what a box says of itself once it took an entry a plug-in may say
+abbrev pub AreFit : {B : Type 0} → (fault : B → PlugEntry → Option ParamFault) → (spec : B → PlugEntry → PlugSpec) → (boxes : List B) → Type 0
+AreFit {B = B} fault spec boxes = (d : B) (k : ℕ) → k < length boxes → (e : PlugEntry) → fault (get_or boxes k d) e ≡ None → IsSpec (spec (get_or boxes k d) e)
+
+-- all rules hold, or some rule fails first
+abbrev pub IsDecided : {B : Type 0} → (kind : B → List ℕ) → (fault : B → PlugEntry → Option ParamFault) → (spec : B → PlugEntry → PlugSpec) → List B → Config → Type 0
+IsDecided kind fault spec boxes cfg = ((plan : Plan) × IsAccepted kind fault spec boxes cfg plan) ⊎ ((refusal : RuleRefusal) × IsFirstRefusal kind fault spec boxes cfg refusal)

@@ -1,8 +1,9 @@
 -- How far configuring has come.
-use Rattle.std.specs.Prelude.{◌≡◌, ℕ, ◌≤◌, ◌<◌, List, length, get_or, Option}
+use Rattle.std.specs.Prelude.{◌≡◌, ℕ, ◌≤◌, ◌<◌, List, length, get_or, Option, None, Some}
 use Rattle.stage_map.specs.declared.config.PlugEntry.{PlugEntry}
 use Rattle.plug_api.specs.declared.spec.PlugSpec.{PlugSpec}
 use Rattle.plug_api.specs.declared.spec.ParamFault.{ParamFault}
+use Rattle.plug_api.specs.declared.spec.ParamFault.TheVariants.{NoMemory}
 use Rattle.plug_api.specs.Spec.{IsSpec, no_spec}
 use Rattle.plug_api.specs.Picks.{AreConfigured, AreFaultless}
 
@@ -18,3 +19,8 @@ pub record ConfiguredSoFar {B : Type 0} (kind : B → List ℕ) (taken : B → O
   pub configured : AreConfigured kind taken now fault spec old new picks entries count
   pub faultless : AreFaultless fault old picks entries count
   pub rest : (d : B) (j : ℕ) → count ≤ j → j < total → get_or new (get_or picks j 0) d ≡ get_or old (get_or picks j 0) d
+
+-- none of the first boxes finds want of memory in an entry, and each says what a plug-in may once it took one
+pub record AreSoundSoFar {B : Type 0} (fault : B → PlugEntry → Option ParamFault) (spec : B → PlugEntry → PlugSpec) (boxes : List B) (count : ℕ) : Type 0 where
+  pub sound : (d : B) (k : ℕ) → k < count → (e : PlugEntry) → fault (get_or boxes k d) e ≡ Some NoMemory → ⊥
+  pub fit : (d : B) (k : ℕ) → k < count → (e : PlugEntry) → fault (get_or boxes k d) e ≡ None → IsSpec (spec (get_or boxes k d) e)

@@ -1,5 +1,5 @@
 -- What a plug-in may say of itself.
-use Rattle.std.specs.Prelude.{◌≡◌, ◌<◌, ◌≤◌, ◌⊎◌, ◌||◌, ℕ, Bool, true, false, eqb, List, [], length, get_or}
+use Rattle.std.specs.Prelude.{◌≡◌, ◌<◌, ◌≤◌, ◌⊎◌, ◌||◌, ℕ, Bool, true, false, eqb, List, [], length, get_or, Option, None, Some}
 use Rattle.std.specs.List.{list_any}
 use Rattle.isa_table.specs.declared.claim.Claim.{Claim}
 use Rattle.isa_table.specs.declared.row.Group.TheVariants.{Load, Store}
@@ -10,6 +10,9 @@ use Rattle.service_reg.specs.Services.{number}
 use Rattle.plug_api.specs.declared.spec.Place.{Place}
 use Rattle.plug_api.specs.declared.spec.Place.TheVariants.{Execute, Commit, Apart}
 use Rattle.plug_api.specs.declared.spec.PlugSpec.{PlugSpec}
+use Rattle.plug_api.specs.declared.spec.ParamFault.{ParamFault}
+use Rattle.plug_api.specs.declared.spec.ParamFault.TheVariants.{NoMemory}
+use Rattle.stage_map.specs.declared.config.PlugEntry.{PlugEntry}
 
 -- what stands where there is no claim
 abbrev pub no_claim : Claim
@@ -57,8 +60,16 @@ pub record IsSpec (spec : PlugSpec) : Type 0 where
   pub offers_differ : (j k : ℕ) → j < k → k < length spec.offers → get_or spec.offers j Fetch ≡ get_or spec.offers k Fetch → ⊥
   -- what executes instructions has a place in the pipeline
   pub executes : is_among spec.offers Exec ≡ has_place spec.place
+  -- what claims a row executes instructions
+  pub units : (k : ℕ) → k < length spec.rows → is_among spec.offers Exec ≡ true
   -- loads and stores are of what has the data bus, and rows 49 to 56 of what has the system registers
   pub loads : (k : ℕ) → k < length spec.rows → IsOfBus (get_or spec.rows k no_claim).row → is_among spec.offers DataBus ≡ true
   pub system : (k : ℕ) → k < length spec.rows → 49 ≤ (get_or spec.rows k no_claim).row → is_among spec.offers System ≡ true
   -- these two are used by the instruction that commits
   pub commits : (is_among spec.offers DataBus || is_among spec.offers System) ≡ true → is_commit spec.place ≡ true
+
+-- what a plug-in finds of entries and says of itself once it took one: want of memory is no fault of an entry, and what it
+-- says a plug-in may say
+pub record IsSound (fault : PlugEntry → Option ParamFault) (taken : PlugEntry → PlugSpec) : Type 0 where
+  pub no_memory : (e : PlugEntry) → fault e ≡ Some NoMemory → ⊥
+  pub fit : (e : PlugEntry) → fault e ≡ None → IsSpec (taken e)

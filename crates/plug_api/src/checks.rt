@@ -66,7 +66,7 @@ pub(crate) fn check_services(alloc: Global, specs: &Vec<PlugSpec>) -> Result<Vec
         Ok(uses) => uses,
         Err(_) => return Err(RuleRefusal::NoMemory),
     };
-    match order(alloc, uses.as_slice()) {
+    match order(alloc, &uses) {
         Ok(order) => Ok(order),
         Err(fault) => Err(of_service(fault)),
     }
@@ -192,7 +192,7 @@ pub(crate) fn check_stages(
         Ok(places) => places,
         Err(_) => return Err(RuleRefusal::NoMemory),
     };
-    match noted.check(alloc, places.as_slice(), shape.commit) {
+    match noted.check(alloc, &places, shape.commit) {
         Ok(()) => Ok(()),
         Err(fault) => Err(of_stages(fault)),
     }

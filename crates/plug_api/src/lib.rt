@@ -13,7 +13,7 @@ mod refusal;
 mod spec;
 
 pub use acceptance::accept;
-pub use law::{one_first_refusal, refusals_exclude};
+pub use law::{accepted_or_refused, decides_each, one_first_refusal, refusals_exclude};
 pub use plugin::Plugin;
 pub use refusal::RuleRefusal;
 pub use spec::{Cost, ParamFault, Place, Plan, PlugSpec};

@@ -2,7 +2,7 @@ ghost use Rattle.std.specs.Prelude.{◌≡◌, ℕ, List, Option, Some, None, On
 ghost use Rattle.stage_map.specs.declared.config.PlugEntry.{PlugEntry};
 ghost use Rattle.plug_api.specs.declared.spec.PlugSpec.{PlugSpec};
 ghost use Rattle.plug_api.specs.declared.spec.ParamFault.{ParamFault};
-ghost use Rattle.plug_api.specs.Spec.{IsSpec};
+ghost use Rattle.plug_api.specs.Spec.{IsSound, IsSpec};
 
 use crate::{ParamFault, PlugSpec};
 use stage_map::PlugEntry;
@@ -28,7 +28,9 @@ pub trait Plugin: Drop {
     fn spec(&self) -> &PlugSpec
         ensures now { result.now ≡ spec_now self.now }
         ensures name { (spec_now self.now).name ≡ kind self.now }
-        ensures is_spec { IsSpec (spec_now self.now) };
+        ensures is_spec { IsSpec (spec_now self.now) }
+        // Want of memory is no fault of an entry, and what it says once it took an entry a plug-in may say.
+        ensures sound { IsSound (first_fault self.now) (spec_taken self.now) };
 
     /// Takes the parameters of an entry, or refuses their first fault and stays as it was.
     fn configure(&mut self, alloc: Global, entry: &PlugEntry) -> Result<(), ParamFault>

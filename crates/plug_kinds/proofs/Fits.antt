@@ -44,25 +44,26 @@ record IsRight (r : KindRow) : Type 0 where
   rising : is_rising r.rows ≡ true
   offers : is_rising (map number r.offers) ≡ true
   executes : is_among r.offers service.Exec ≡ has_place r.place
+  units : (leb (length r.rows) 0 || is_among r.offers service.Exec) ≡ true
   loads : list_all (λ n. not (is_bus_row n) || is_among r.offers service.DataBus) r.rows ≡ true
   system : list_all (λ n. ltb n 49 || is_among r.offers service.System) r.rows ≡ true
   commits : (not (is_among r.offers service.DataBus || is_among r.offers service.System) || is_commit r.place) ≡ true
 
 is_right : (k : Kind) → IsRight (row_of k)
-is_right Fetch = record { fixed = refl; per_row = refl; few = refl; known = refl; rising = refl; offers = refl; executes = refl; loads = refl; system = refl; commits = refl }
-is_right Icache = record { fixed = refl; per_row = refl; few = refl; known = refl; rising = refl; offers = refl; executes = refl; loads = refl; system = refl; commits = refl }
-is_right Predict = record { fixed = refl; per_row = refl; few = refl; known = refl; rising = refl; offers = refl; executes = refl; loads = refl; system = refl; commits = refl }
-is_right Fencei = record { fixed = refl; per_row = refl; few = refl; known = refl; rising = refl; offers = refl; executes = refl; loads = refl; system = refl; commits = refl }
-is_right Decoder = record { fixed = refl; per_row = refl; few = refl; known = refl; rising = refl; offers = refl; executes = refl; loads = refl; system = refl; commits = refl }
-is_right Regfile = record { fixed = refl; per_row = refl; few = refl; known = refl; rising = refl; offers = refl; executes = refl; loads = refl; system = refl; commits = refl }
-is_right Hazard = record { fixed = refl; per_row = refl; few = refl; known = refl; rising = refl; offers = refl; executes = refl; loads = refl; system = refl; commits = refl }
-is_right Alu = record { fixed = refl; per_row = refl; few = refl; known = refl; rising = refl; offers = refl; executes = refl; loads = refl; system = refl; commits = refl }
-is_right ShiftLight = record { fixed = refl; per_row = refl; few = refl; known = refl; rising = refl; offers = refl; executes = refl; loads = refl; system = refl; commits = refl }
-is_right ShiftBarrel = record { fixed = refl; per_row = refl; few = refl; known = refl; rising = refl; offers = refl; executes = refl; loads = refl; system = refl; commits = refl }
-is_right Muldiv = record { fixed = refl; per_row = refl; few = refl; known = refl; rising = refl; offers = refl; executes = refl; loads = refl; system = refl; commits = refl }
-is_right Branch = record { fixed = refl; per_row = refl; few = refl; known = refl; rising = refl; offers = refl; executes = refl; loads = refl; system = refl; commits = refl }
-is_right Dbus = record { fixed = refl; per_row = refl; few = refl; known = refl; rising = refl; offers = refl; executes = refl; loads = refl; system = refl; commits = refl }
-is_right Csr = record { fixed = refl; per_row = refl; few = refl; known = refl; rising = refl; offers = refl; executes = refl; loads = refl; system = refl; commits = refl }
+is_right Fetch = record { fixed = refl; per_row = refl; few = refl; known = refl; rising = refl; offers = refl; executes = refl; units = refl; loads = refl; system = refl; commits = refl }
+is_right Icache = record { fixed = refl; per_row = refl; few = refl; known = refl; rising = refl; offers = refl; executes = refl; units = refl; loads = refl; system = refl; commits = refl }
+is_right Predict = record { fixed = refl; per_row = refl; few = refl; known = refl; rising = refl; offers = refl; executes = refl; units = refl; loads = refl; system = refl; commits = refl }
+is_right Fencei = record { fixed = refl; per_row = refl; few = refl; known = refl; rising = refl; offers = refl; executes = refl; units = refl; loads = refl; system = refl; commits = refl }
+is_right Decoder = record { fixed = refl; per_row = refl; few = refl; known = refl; rising = refl; offers = refl; executes = refl; units = refl; loads = refl; system = refl; commits = refl }
+is_right Regfile = record { fixed = refl; per_row = refl; few = refl; known = refl; rising = refl; offers = refl; executes = refl; units = refl; loads = refl; system = refl; commits = refl }
+is_right Hazard = record { fixed = refl; per_row = refl; few = refl; known = refl; rising = refl; offers = refl; executes = refl; units = refl; loads = refl; system = refl; commits = refl }
+is_right Alu = record { fixed = refl; per_row = refl; few = refl; known = refl; rising = refl; offers = refl; executes = refl; units = refl; loads = refl; system = refl; commits = refl }
+is_right ShiftLight = record { fixed = refl; per_row = refl; few = refl; known = refl; rising = refl; offers = refl; executes = refl; units = refl; loads = refl; system = refl; commits = refl }
+is_right ShiftBarrel = record { fixed = refl; per_row = refl; few = refl; known = refl; rising = refl; offers = refl; executes = refl; units = refl; loads = refl; system = refl; commits = refl }
+is_right Muldiv = record { fixed = refl; per_row = refl; few = refl; known = refl; rising = refl; offers = refl; executes = refl; units = refl; loads = refl; system = refl; commits = refl }
+is_right Branch = record { fixed = refl; per_row = refl; few = refl; known = refl; rising = refl; offers = refl; executes = refl; units = refl; loads = refl; system = refl; commits = refl }
+is_right Dbus = record { fixed = refl; per_row = refl; few = refl; known = refl; rising = refl; offers = refl; executes = refl; units = refl; loads = refl; system = refl; commits = refl }
+is_right Csr = record { fixed = refl; per_row = refl; few = refl; known = refl; rising = refl; offers = refl; executes = refl; units = refl; loads = refl; system = refl; commits = refl }
 
 -- ---- from a test to what it says
 
@@ -108,6 +109,9 @@ or_else : (a b : Bool) → (a || b) ≡ true → a ≡ false → b ≡ true
 or_else true b h e = grind arith
 or_else false b h e = h
 
+not_none : (n k : ℕ) → k < n → leb n 0 ≡ false
+not_none n k h = grind arith
+
 at_least : (n : ℕ) → 49 ≤ n → ltb n 49 ≡ false
 at_least n h = grind arith
 
@@ -140,6 +144,7 @@ fits k ps = record {
       omega arith;
   offers_differ = offered_once (row_of k).offers (is_right k).offers;
   executes = (is_right k).executes;
+  units = λ i there. or_else _ _ (is_right k).units (not_none _ i (within_rows (row_of k).rows i there));
   loads = λ i there bus. implies _ _ (all_at (λ n. not (is_bus_row n) || is_among (row_of k).offers service.DataBus) (row_of k).rows (is_right k).loads i (within_rows (row_of k).rows i there))
       (bus_test _ (subst IsOfBus (row_at (row_of k).rows i there) bus));
   system = λ i there least. or_else _ _ (all_at (λ n. ltb n 49 || is_among (row_of k).offers service.System) (row_of k).rows (is_right k).system i (within_rows (row_of k).rows i there))

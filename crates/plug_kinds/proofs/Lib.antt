@@ -1,2 +1,3 @@
 mod Bounds
 mod Fits
+pub mod Faults

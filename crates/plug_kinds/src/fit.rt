@@ -181,6 +181,9 @@ pub(crate) fn is_spec(spec: &PlugSpec) -> bool
     if offers(spec, Service::Exec) != has_place(spec.place) {
         return false;
     }
+    if rows.len() > 0 && !offers(spec, Service::Exec) {
+        return false;
+    }
     if use_bus(rows) && !offers(spec, Service::DataBus) {
         return false;
     }

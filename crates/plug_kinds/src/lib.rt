@@ -16,12 +16,3 @@ pub use kind::{Kind, Values};
 pub use kind_box::KindBox;
 pub use law::kinds_fit;
 pub use spec_box::SpecBox;
-
-#[cfg(test)]
-mod cores;
-#[cfg(test)]
-mod param_tests;
-#[cfg(test)]
-mod sample;
-#[cfg(test)]
-mod tests;

@@ -3,3 +3,4 @@ pub mod Offers
 pub mod Walks
 pub mod Places
 pub mod Refused
+pub mod Decided

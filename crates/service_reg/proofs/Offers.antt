@@ -37,7 +37,7 @@ pair_both specs s y z h k =
 
 -- ---- services by number
 
-abbrev service_at : ℕ → Service
+abbrev pub service_at : ℕ → Service
 service_at zero = Fetch
 service_at (suc zero) = Predict
 service_at (suc (suc zero)) = Decoder
@@ -93,7 +93,7 @@ use_any [] i d e l = absurd (omega (arith, l))
 use_any (x ∷ xs) zero d e l = refl
 use_any (x ∷ xs) (suc i) d e l = use_any xs i d e (omega (arith, l))
 
-stands_shares : (specs : List ServiceUse) (x y : ℕ) (p : StandsOn specs x y) → Wants specs x p.service → (Shares (use_at specs x).needs (use_at specs y).offers → ⊥) → Shares (use_at specs x).uses (use_at specs y).offers
+pub stands_shares : (specs : List ServiceUse) (x y : ℕ) (p : StandsOn specs x y) → Wants specs x p.service → (Shares (use_at specs x).needs (use_at specs y).offers → ⊥) → Shares (use_at specs x).uses (use_at specs y).offers
 stands_shares specs x y p (inl n) none = absurd (none (p.service, (n, p.offers)))
 stands_shares specs x y p (inr u) none = (p.service, (u, p.offers))
 

@@ -74,7 +74,7 @@ found_more specs x found y f m = record {
 pub found_room : (specs : List ServiceUse) (x : ℕ) (found : List ℕ) (y : ℕ) → IsFound specs x found → IsFurther specs found x (Some y) → length found < length specs
 found_room specs x found y f m = room (length specs) found y f.apart m.0 m.1
 
-closed : (specs : List ServiceUse) (x : ℕ) (found : List ℕ) → IsFurther specs found x None → (y : ℕ) → LeadsTo specs x y → Contains found y
+pub closed : (specs : List ServiceUse) (x : ℕ) (found : List ℕ) → IsFurther specs found x None → (y : ℕ) → LeadsTo specs x y → Contains found y
 closed specs x found m y (direct e) = m y e.other (inl e)
 closed specs x found m z (further {y = y} l e) = m z e.other (inr (y, (closed specs x found m y l, e)))
 

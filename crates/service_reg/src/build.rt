@@ -58,7 +58,16 @@ fn build_order(alloc: Global, specs: &[ServiceUse]) -> Result<Vec<u32>, AllocErr
 /// The first that holds of `Missing`, for what every core needs (`Fetch`, `Decoder`, `RegFile` and `Hazard`) and then
 /// for what an entry needs; `Double` at a service but `Exec`; and `CycleOfNeeds` at the least entry that stands on
 /// itself. `NoMemory` where memory runs out.
-pub fn order(alloc: Global, specs: &[ServiceUse]) -> Result<Vec<u32>, ServiceRefusal>
+pub fn order(alloc: Global, specs: &Vec<ServiceUse>) -> Result<Vec<u32>, ServiceRefusal>
+    requires { length specs.now.items < 2 ^ 32 }
+    ensures ok { IfOk result (λ o. HasNoServiceFault specs.now.items × IsBuildOrder specs.now.items o.items) }
+    ensures refused { (r : ServiceRefusal) → result ≡ Err r → (r ≡ ServiceRefusal.NoMemory → ⊥) → IsFirstServiceFault specs.now.items r }
+{
+    order_of(alloc, specs.as_slice())
+}
+
+/// The order in which these entries are built.
+fn order_of(alloc: Global, specs: &[ServiceUse]) -> Result<Vec<u32>, ServiceRefusal>
     requires { length specs.now < 2 ^ 32 }
     ensures ok { IfOk result (λ o. HasNoServiceFault specs.now × IsBuildOrder specs.now o.items) }
     ensures refused { (r : ServiceRefusal) → result ≡ Err r → (r ≡ ServiceRefusal.NoMemory → ⊥) → IsFirstServiceFault specs.now r }

@@ -10,6 +10,3 @@ mod stand;
 pub use build::order;
 pub use law::{faults_exclude, one_first_fault};
 pub use service::{Service, ServiceRefusal, ServiceUse};
-
-#[cfg(test)]
-mod tests;

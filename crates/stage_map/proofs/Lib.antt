@@ -3,3 +3,4 @@ pub mod Writers
 pub mod Pairs
 pub mod Refused
 pub mod Unique
+pub mod Decided

@@ -31,11 +31,11 @@ fn lacking(stages: u32, place: Option<Stage>) -> Option<Stage>
 }
 
 /// The first entry whose place is a stage that is lacking.
-fn absent_place(stages: u32, places: &[Option<Stage>]) -> Option<Absence>
-    requires few { length places.now < 2 ^ 32 }
-    ensures first { IfSome result (λ a. IfSome a.plug (λ e. IsPlaceFault stages places.now e a.stage × PlacesThere stages places.now e)) }
+fn absent_place(stages: u32, places: &Vec<Option<Stage>>) -> Option<Absence>
+    requires few { length places.now.items < 2 ^ 32 }
+    ensures first { IfSome result (λ a. IfSome a.plug (λ e. IsPlaceFault stages places.now.items e a.stage × PlacesThere stages places.now.items e)) }
     ensures entry { IfSome result (λ a. a.plug ≡ None → ⊥) }
-    ensures none { result ≡ None → PlacesThere stages places.now (length places.now) }
+    ensures none { result ≡ None → PlacesThere stages places.now.items (length places.now.items) }
 {
     for e in 0..places.len() {
         if let Some(stage) = lacking(stages, places[e]) {
@@ -64,11 +64,11 @@ fn absent_use(stages: u32, uses: &[PlugUse]) -> Option<usize>
 pub fn first_absence(
     stages: u32,
     uses: &[PlugUse],
-    places: &[Option<Stage>],
+    places: &Vec<Option<Stage>>,
     commit: Stage,
 ) -> Option<Absence>
-    requires few { length places.now < 2 ^ 32 }
-    ensures { IsFirstAbsence stages uses.now places.now commit result }
+    requires few { length places.now.items < 2 ^ 32 }
+    ensures { IsFirstAbsence stages uses.now places.now.items commit result }
 {
     if lacks_stage(stages, commit) {
         return Some(Absence {

@@ -19,6 +19,3 @@ pub use config::{
 pub use keys::{Key, KeyUse, PlugUse, StageRefusal};
 pub use law::{faults_exclude, one_first_fault};
 pub use map::StageMap;
-
-#[cfg(test)]
-mod tests;

@@ -86,14 +86,14 @@ impl StageMap {
     pub fn check(
         &self,
         alloc: Global,
-        places: &[Option<Stage>],
+        places: &Vec<Option<Stage>>,
         commit: Stage,
     ) -> Result<(), StageRefusal>
-        requires few { length places.now < 2 ^ 32 }
-        ensures ok { IsOk result → HasNoStageFault self.now places.now commit }
-        ensures told { HasNoStageFault self.now places.now commit → IsOk result }
-        ensures memory { result ≡ Err StageRefusal.NoMemory → HasStages self.now.stages self.now.uses places.now commit }
-        ensures refused { (r : StageRefusal) → result ≡ Err r → (r ≡ StageRefusal.NoMemory → ⊥) → IsFirstStageFault self.now places.now commit r }
+        requires few { length places.now.items < 2 ^ 32 }
+        ensures ok { IsOk result → HasNoStageFault self.now places.now.items commit }
+        ensures told { HasNoStageFault self.now places.now.items commit → IsOk result }
+        ensures memory { result ≡ Err StageRefusal.NoMemory → HasStages self.now.stages self.now.uses places.now.items commit }
+        ensures refused { (r : StageRefusal) → result ≡ Err r → (r ≡ StageRefusal.NoMemory → ⊥) → IsFirstStageFault self.now places.now.items commit r }
     {
         let uses = self.uses.as_slice();
         if let Some(absence) = first_absence(self.stages, uses, places, commit) {

@@ -4,7 +4,7 @@ use Rattle.core_host.specs.Outside.{Appends, IsCut}
 use Rattle.core_tool.specs.Words.{form_of, words_of}
 use Rattle.core_tool.specs.Lines.{line_of}
 use Rattle.core_tool.proofs.Calls.{Rose-earlier}
-use Rattle.core_tool.proofs.Statuses.{cut_clause, cycles_clause, end_later, has_line, image_clause, missing_clause, pulled_later, refused_clause, run_clause, stopped_clause}
+use Rattle.core_tool.proofs.Statuses.{cut_clause, cycles_clause, end_later, has_line, image_clause, missing_clause, pulled_later, refused_clause, run_clause, stopped_clause, unwritten_clause}
 use Rattle.core_tool.proofs.RuleEnds.{accepted_clause, rules_clause, rules_only_clause}
 use Rattle.plug_api.proofs.Verdicts.{refusal_excludes}
 use Rattle.core_tool.proofs.call.core_main.Goals as goal
@@ -184,3 +184,36 @@ returns-clause-pulled g c =
     pulled_later form files (g.H.Host.left c.args.host.now) (g.H.Host.left c.work-end.new.host) (g.H.Host.left c.push_line.new.host)
     (g.H.Host.read_faults c.args.host.now) (g.H.Host.read_faults c.work-end.new.host) (g.H.Host.read_faults c.push_line.new.host)
     c.push_line.ensures.left c.push_line.ensures.reads c.work-end.ensures.pulled
+
+pub returns-in-Ok-clause-cut : goal.returns-in-Ok-clause-cut
+returns-in-Ok-clause-cut g c =
+    let form = form_of (words_of c.args.words.now) in
+    let files = g.H.Host.files c.args.host.now in
+    let end = c.work-end.result in
+    let done = end_later _ form files (g.H.Host.read_faults c.args.host.now) (g.H.Host.read_faults c.work-end.new.host) (g.H.Host.read_faults c.push_line.new.host)
+    (g.H.Host.write_faults c.args.host.now) (g.H.Host.write_faults c.work-end.new.host) (g.H.Host.write_faults c.push_line.new.host)
+    (g.H.Host.pushed c.args.host.now Main) (g.H.Host.pushed c.work-end.new.host Main) (g.H.Host.pushed c.push_line.new.host Main) end
+    c.push_line.ensures.reads c.push_line.ensures.writes (c.push_line.ensures.others Main (λ e. cc)) c.work-end.ensures.ends in
+    λ fault. unwritten_clause _ form files _ _ _ _ _ _ end c.status.result done c.status.ensures fault
+
+pub returns-in-Ok-clause-boxes : goal.returns-in-Ok-clause-boxes
+returns-in-Ok-clause-boxes g c =
+    let form = form_of (words_of c.args.words.now) in
+    let files = g.H.Host.files c.args.host.now in
+    let end = c.work-end.result in
+    let done = end_later _ form files (g.H.Host.read_faults c.args.host.now) (g.H.Host.read_faults c.work-end.new.host) (g.H.Host.read_faults c.push_line.new.host)
+    (g.H.Host.write_faults c.args.host.now) (g.H.Host.write_faults c.work-end.new.host) (g.H.Host.write_faults c.push_line.new.host)
+    (g.H.Host.pushed c.args.host.now Main) (g.H.Host.pushed c.work-end.new.host Main) (g.H.Host.pushed c.push_line.new.host Main) end
+    c.push_line.ensures.reads c.push_line.ensures.writes (c.push_line.ensures.others Main (λ e. cc)) c.work-end.ensures.ends in
+    record { end = end; text = done.text; cause = done.cause; answered = inl c.status.ensures; boxes = c.work-end.ensures.boxes }
+
+pub returns-clause-boxes : goal.returns-clause-boxes
+returns-clause-boxes g c =
+    let form = form_of (words_of c.args.words.now) in
+    let files = g.H.Host.files c.args.host.now in
+    let end = c.work-end.result in
+    let done = end_later _ form files (g.H.Host.read_faults c.args.host.now) (g.H.Host.read_faults c.work-end.new.host) (g.H.Host.read_faults c.push_line.new.host)
+    (g.H.Host.write_faults c.args.host.now) (g.H.Host.write_faults c.work-end.new.host) (g.H.Host.write_faults c.push_line.new.host)
+    (g.H.Host.pushed c.args.host.now Main) (g.H.Host.pushed c.work-end.new.host Main) (g.H.Host.pushed c.push_line.new.host Main) end
+    c.push_line.ensures.reads c.push_line.ensures.writes (c.push_line.ensures.others Main (λ e. cc)) c.work-end.ensures.ends in
+    record { end = end; text = done.text; cause = done.cause; answered = inr refl; boxes = c.work-end.ensures.boxes }
