@@ -1,0 +1,9 @@
+pub mod Frame
+pub mod Holds
+pub mod Leaves
+pub mod Offers
+pub mod PartRuns
+pub mod Runs
+pub mod Steps
+pub mod Within
+pub mod Worlds

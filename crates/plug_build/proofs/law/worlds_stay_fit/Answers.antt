@@ -1,0 +1,11 @@
+use Rattle.plug_build.proofs.Worlds.{world_fits, offered_fits, exec_fits}
+use Rattle.plug_build.proofs.law.worlds_stay_fit.Goals as goal
+
+pub returns-clause-grown : goal.returns-clause-grown
+returns-clause-grown c = world_fits
+
+pub returns-clause-offered : goal.returns-clause-offered
+returns-clause-offered c = offered_fits
+
+pub returns-clause-offered_exec : goal.returns-clause-offered_exec
+returns-clause-offered_exec c = exec_fits

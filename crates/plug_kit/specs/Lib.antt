@@ -1,0 +1,4 @@
+pub mod Made
+pub mod Bounds
+pub mod Carries
+pub mod Unit

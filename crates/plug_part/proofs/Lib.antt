@@ -1,0 +1,4 @@
+pub mod Rows
+pub mod OneService
+pub mod Things
+pub mod Owners

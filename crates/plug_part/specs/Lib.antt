@@ -1,0 +1,10 @@
+pub mod Part
+pub mod Runs
+pub mod Owned
+pub mod Of
+pub mod Things
+pub mod Terms
+pub mod Signals
+pub mod Named
+pub mod Meets
+pub mod Alone
