@@ -1,0 +1,5 @@
+pub mod Claims
+pub mod Gathers
+pub mod Decodes
+pub mod Keeps
+pub mod Parts

@@ -1,0 +1,14 @@
+pub mod Tests
+pub mod Wires
+pub mod Queue
+pub mod Counts
+pub mod Invariant
+pub mod Kept
+pub mod InTime
+pub mod Timely
+pub mod Turns
+pub mod Tied
+pub mod Bits
+pub mod Laws
+pub mod Has
+pub mod Parts

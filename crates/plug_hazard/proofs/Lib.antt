@@ -1,0 +1,3 @@
+pub mod Chooses
+pub mod Keeps
+pub mod Parts

@@ -1,0 +1,4 @@
+pub mod Machine
+pub mod Nets
+pub mod Law
+pub mod Builds

@@ -1,0 +1,10 @@
+//! The part that bypasses results and holds items: its circuit over three stages, and the law of its values.
+//!
+//! Which stages are bypassed is one truth value for each stage.
+#![tactic(auto)]
+
+mod circuit;
+mod law;
+
+pub use circuit::{Operand, Stage, choose_operand, hold};
+pub use law::{hazard_keeps_its_law, hazard_parts_meet_their_laws, operands_are_right};

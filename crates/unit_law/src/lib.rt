@@ -1,0 +1,10 @@
+//! Laws that units share: what a unit has to show, so that it keeps the law of Exec.
+#![tactic(auto)]
+
+ghost use Rattle.unit_law.specs.AtOnce.{KeepsAtOnce};
+
+/// A unit that is done in the cycle in which it is given an instruction, shows the instruction's effect and has no bus keeps
+/// the law of Exec, with each latency. This does nothing: its contract is the law.
+pub fn units_at_once_keep_their_law()
+    ensures law { KeepsAtOnce }
+{}
