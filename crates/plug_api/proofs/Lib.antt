@@ -9,3 +9,4 @@ pub mod Verdicts
 pub mod OneRefusal
 pub mod Decided
 pub mod Sound
+pub mod Plans

@@ -3,3 +3,4 @@ pub mod Picks
 pub mod Rules
 pub mod Accept
 pub mod SoFar
+pub mod Calls

@@ -25,8 +25,11 @@ pub struct Checked {
     pub wanted: u32,
 }
 
-/// Rules 4 to 13, on what the plug-ins of the entries say of themselves.
-fn check_specs(
+/// Rules 4 to 13, on what the plug-ins of the entries say of themselves, one for each entry.
+///
+/// # Errors
+/// The first rule that fails, at its first place; `NoMemory` where memory was refused.
+pub fn check_specs(
     alloc: Global,
     shape: CoreShape,
     specs: &Vec<PlugSpec>,
