@@ -7,8 +7,9 @@ use Rattle.stage_map.specs.declared.config.Param.{Param}
 use Rattle.stage_map.specs.declared.config.ParamValue.{ParamValue}
 use Rattle.stage_map.specs.declared.config.ParamValue.TheVariants.{Num, Flag, Word}
 use Rattle.plug_api.specs.declared.spec.ParamFault.{ParamFault}
-use Rattle.plug_kinds.specs.declared.kind.Kind.TheVariants.{Icache, Muldiv}
-use Rattle.plug_kinds.specs.declared.kind.Values.TheVariants.{Power}
+use Rattle.plug_kinds.specs.declared.kind.Kind.TheVariants.{Fetch, Icache, Muldiv}
+use Rattle.plug_kinds.specs.declared.kind.Values.{Values}
+use Rattle.plug_kinds.specs.declared.kind.Values.TheVariants.{Whole, Power}
 use Rattle.plug_kinds.specs.Kinds.{Parameter, row_of, is_of, values_of, fault_by, first_of, fault_in, fault_of, given_or, number_of}
 
 same : (xs ys : List ℕ) → xs ≡ ys → same_name xs ys ≡ true
@@ -52,6 +53,13 @@ of_power low high (Num (negsuc n)) e = record { least = grind arith; most = grin
 of_power low high (Flag b) e = record { least = grind arith; most = grind arith }
 of_power low high (Word w) e = record { least = grind arith; most = grind arith }
 
+-- an integer from one number to another is within
+of_whole : (low high : ℕ) (v : ParamValue) → is_of (Whole low high) v ≡ true → IsWithin low high (number_of v)
+of_whole low high (Num (pos n)) e = record { least = grind arith; most = grind arith }
+of_whole low high (Num (negsuc n)) e = record { least = grind arith; most = grind arith }
+of_whole low high (Flag b) e = record { least = grind arith; most = grind arith }
+of_whole low high (Word w) e = record { least = grind arith; most = grind arith }
+
 -- no fault of two is no fault of either
 no_first : (a b : Option ParamFault) → first_of a b ≡ None → a ≡ None
 no_first None b e = refl
@@ -62,33 +70,49 @@ no_later None b e = e
 no_later (Some f) b e = grind arith
 
 -- a value that may not be is a fault
-allowed : (low high : ℕ) (p : Param) → fault_by (Some (Power low high)) p ≡ None → is_of (Power low high) p.value ≡ true
-allowed low high p e = elim (cases_Bool (is_of (Power low high) p.value)) [
+allowed : (v : Values) (p : Param) → fault_by (Some v) p ≡ None → is_of v p.value ≡ true
+allowed v p e = elim (cases_Bool (is_of v p.value)) [
   | inl t ↦ t
   | inr f ↦ grind arith
 ]
 
--- the number of a parameter that has powers of two, where nothing is refused
-within : (known : List Parameter) (key : List ℕ) (low high : ℕ) (default : ParamValue) → values_of known key ≡ Some (Power low high)
+-- the number of a parameter whose values are within bounds, where nothing is refused
+within : (known : List Parameter) (key : List ℕ) (v : Values) (low high : ℕ) (default : ParamValue) → values_of known key ≡ Some v
+    → ((x : ParamValue) → is_of v x ≡ true → IsWithin low high (number_of x))
     → IsWithin low high (number_of default) → (ps : List Param) → fault_in known ps ≡ None → IsWithin low high (number_of (given_or default ps key))
-within known key low high default v d [] e = d
-within known key low high default v d (p ∷ ps) e = elim (cases_Bool (same_name p.key key)) [
+within known key v low high default is bound d [] e = d
+within known key v low high default is bound d (p ∷ ps) e = elim (cases_Bool (same_name p.key key)) [
   | inl t ↦
       let here : p.key ≡ key = same_text p.key key (sym t) in
-      let found : fault_by (Some (Power low high)) p ≡ None = ap (λ o. fault_by o p) (sym v ∙ ap (λ k. values_of known k) (sym here)) ∙ no_first _ _ e in
-      subst (λ b. IsWithin low high (number_of (cond b p.value (given_or default ps key)))) (sym t) (of_power low high p.value (allowed low high p found))
+      let found : fault_by (Some v) p ≡ None = ap (λ o. fault_by o p) (sym is ∙ ap (λ k. values_of known k) (sym here)) ∙ no_first _ _ e in
+      subst (λ b. IsWithin low high (number_of (cond b p.value (given_or default ps key)))) (sym t) (bound p.value (allowed v p found))
   | inr f ↦
-      subst (λ b. IsWithin low high (number_of (cond b p.value (given_or default ps key)))) (sym f) (within known key low high default v d ps (no_later _ _ e))
+      subst (λ b. IsWithin low high (number_of (cond b p.value (given_or default ps key)))) (sym f) (within known key v low high default is bound d ps (no_later _ _ e))
 ]
 
+-- of powers of two
+within_power : (known : List Parameter) (key : List ℕ) (low high : ℕ) (default : ParamValue) → values_of known key ≡ Some (Power low high)
+    → IsWithin low high (number_of default) → (ps : List Param) → fault_in known ps ≡ None → IsWithin low high (number_of (given_or default ps key))
+within_power known key low high default is d ps e = within known key (Power low high) low high default is (of_power low high) d ps e
+
+depth_within : (ps : List Param) → fault_of Fetch ps ≡ None → IsWithin 1 4 (number_of (given_or (Num (pos 1)) ps (codes "depth")))
+depth_within ps e =
+    within (row_of Fetch).params (codes "depth") (Whole 1 4) 1 4 (Num (pos 1)) refl (of_whole 1 4) (record { least = grind arith; most = grind arith }) ps e
+
+pub depth_least : (ps : List Param) → fault_of Fetch ps ≡ None → 1 ≤ number_of (given_or (Num (pos 1)) ps (codes "depth"))
+depth_least ps e = (depth_within ps e).least
+
+pub depth_most : (ps : List Param) → fault_of Fetch ps ≡ None → number_of (given_or (Num (pos 1)) ps (codes "depth")) ≤ 4
+depth_most ps e = (depth_within ps e).most
+
 pub lines_most : (ps : List Param) → fault_of Icache ps ≡ None → number_of (given_or (Num (pos 64)) ps (codes "lines")) ≤ 1024
-lines_most ps e = (within (row_of Icache).params (codes "lines") 2 1024 (Num (pos 64)) refl (record { least = grind arith; most = grind arith }) ps e).most
+lines_most ps e = (within_power (row_of Icache).params (codes "lines") 2 1024 (Num (pos 64)) refl (record { least = grind arith; most = grind arith }) ps e).most
 
 pub words_most : (ps : List Param) → fault_of Icache ps ≡ None → number_of (given_or (Num (pos 8)) ps (codes "words")) ≤ 16
-words_most ps e = (within (row_of Icache).params (codes "words") 2 16 (Num (pos 8)) refl (record { least = grind arith; most = grind arith }) ps e).most
+words_most ps e = (within_power (row_of Icache).params (codes "words") 2 16 (Num (pos 8)) refl (record { least = grind arith; most = grind arith }) ps e).most
 
 pub unroll_least : (ps : List Param) → fault_of Muldiv ps ≡ None → 1 ≤ number_of (given_or (Num (pos 1)) ps (codes "unroll"))
-unroll_least ps e = (within (row_of Muldiv).params (codes "unroll") 1 4 (Num (pos 1)) refl (record { least = grind arith; most = grind arith }) ps e).least
+unroll_least ps e = (within_power (row_of Muldiv).params (codes "unroll") 1 4 (Num (pos 1)) refl (record { least = grind arith; most = grind arith }) ps e).least
 
 pub unroll_most : (ps : List Param) → fault_of Muldiv ps ≡ None → number_of (given_or (Num (pos 1)) ps (codes "unroll")) ≤ 4
-unroll_most ps e = (within (row_of Muldiv).params (codes "unroll") 1 4 (Num (pos 1)) refl (record { least = grind arith; most = grind arith }) ps e).most
+unroll_most ps e = (within_power (row_of Muldiv).params (codes "unroll") 1 4 (Num (pos 1)) refl (record { least = grind arith; most = grind arith }) ps e).most

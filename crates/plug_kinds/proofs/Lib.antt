@@ -1,3 +1,4 @@
-mod Bounds
+pub mod Bounds
 mod Fits
 pub mod Faults
+pub mod Nothing

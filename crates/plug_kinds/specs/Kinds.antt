@@ -280,6 +280,10 @@ abbrev pub number_of : ParamValue → ℕ
 number_of (Num (pos n)) = n
 number_of _ = 0
 
+abbrev pub flag_of : ParamValue → Bool
+flag_of (Flag b) = b
+flag_of _ = false
+
 -- the claim of a row of the table
 abbrev pub claim_of : ℕ → Claim
 claim_of row = record { mask = (get_or table row lui).mask; value = (get_or table row lui).value; row = row }
@@ -304,3 +308,13 @@ spec_of kind ps = record {
 abbrev pub params_of : Option PlugEntry → List Param
 params_of None = []
 params_of (Some entry) = entry.params
+
+-- what a plug-in of a kind keeps: the kind, and the entry that it took last
+pub record KindValue : Type 0 where
+  pub kind : Kind
+  pub taken : Option PlugEntry
+
+-- what a plug-in keeps that takes no parameter
+pub record PlainValue : Type 0 where
+  pub spec : PlugSpec
+  pub taken : Option PlugEntry

@@ -164,7 +164,7 @@ fn is_commit(place: Place) -> bool
 }
 
 /// Whether a plug-in may say this of itself.
-pub(crate) fn is_spec(spec: &PlugSpec) -> bool
+pub fn is_spec(spec: &PlugSpec) -> bool
     ensures { IsTrue result ↔ IsSpec spec.now }
 {
     let rows = spec.rows.items();

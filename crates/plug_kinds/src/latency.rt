@@ -21,7 +21,7 @@ fn number_of(value: &ParamValue) -> u64
 }
 
 /// The number that is given for a key, or else the default.
-fn number_in(params: &[Param], key: &'static str, default: u32) -> u64
+pub(crate) fn number_in(params: &[Param], key: &'static str, default: u32) -> u64
     ensures { result ≡ number_of (given_or (ParamValue.Num (pos default)) params.now key.now) }
 {
     for param in params {

@@ -38,7 +38,7 @@ fn services(alloc: Global, services: &'static [Service]) -> Result<List<Service>
 ///
 /// # Errors
 /// `AllocError` where memory was refused.
-pub(crate) fn spec_of(alloc: Global, kind: Kind, params: &[Param]) -> Result<PlugSpec, AllocError>
+pub fn spec_of(alloc: Global, kind: Kind, params: &[Param]) -> Result<PlugSpec, AllocError>
     requires { fault_of kind params.now ≡ None }
     ensures { IfOk result (λ s. s ≡ spec_of kind params.now) }
 {

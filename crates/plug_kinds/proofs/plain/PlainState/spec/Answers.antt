@@ -1,7 +1,7 @@
 use Rattle.std.proofs.Common.{rules}
 use Rattle.plug_api.specs.Spec.{IsSpec}
 use Rattle.plug_kinds.proofs.Faults.{own_sound}
-use Rattle.plug_kinds.proofs.spec_box.SpecBoxPlugin.spec.Goals as goal
+use Rattle.plug_kinds.proofs.plain.PlainState.spec.Goals as goal
 
 pub returns-clause-sound : goal.returns-clause-sound
 returns-clause-sound c =
