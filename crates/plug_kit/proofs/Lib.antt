@@ -5,3 +5,7 @@ pub mod Steps
 pub mod Rows
 pub mod Things
 pub mod Unit
+pub mod Bare
+pub mod Gates
+pub mod Among
+pub mod Plain

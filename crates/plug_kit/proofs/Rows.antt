@@ -1,9 +1,10 @@
 -- The rows of an entry in its part, and what the part tells of them.
-use Rattle.std.proofs.Common.{◌≡◌, ℕ, map, ap, sym, refl, Bool, true, false, cond, Option, None, Some}
+use Rattle.std.proofs.Common.{◌≡◌, ◌∙◌, ℕ, map, ap, sym, refl, Bool, true, false, cond, Option, None, Some}
+use Rattle.hw_pool.specs.Frame.{Adds}
 use Rattle.hw_module.specs.declared.rows.Owner.TheVariants.{Entry}
 use Rattle.hw_module.specs.Rows.{wire_at, reg_at, array_at}
 use Rattle.service_reg.specs.declared.service.Service.{Service}
-use Rattle.service_ports.specs.Ports.{Ports}
+use Rattle.service_ports.specs.Ports.{Ports, output_level, output_widths}
 use Rattle.service_ports.specs.Registry.{offer_of}
 use Rattle.service_ports.proofs.Offers.{none_some}
 use Rattle.plug_part.specs.Part.{PartWire, PartReg, PartArray, PortTrees}
@@ -11,6 +12,9 @@ use Rattle.plug_part.specs.Owned.{is_owner, is_own_input}
 use Rattle.plug_part.specs.Of.{part_of, net_tree, tree_option, write_trees, port_trees}
 use Rattle.plug_part.proofs.Rows.{owner_is, owned}
 use Rattle.plug_build.specs.World.{World, part_in}
+use Rattle.plug_build.specs.Fits.{WorldFits}
+use Rattle.plug_build.proofs.Frame.{ports_kept}
+use Rattle.plug_build.proofs.Offers.{offer_fits}
 
 pub some_eq : {A : Type 0} {a b : A} → Some a ≡ Some b → a ≡ b
 some_eq e = cc
@@ -67,3 +71,11 @@ module _ (takes : Service → Bool) (entry : ℕ) (w : World) where
       pick : (o : Option Ports) → offer_of w.reg entry s ≡ o → port_trees w.pool.nodes o ≡ Some t → (p : Ports) × (offer_of w.reg entry s ≡ Some p) × (t ≡ record { inputs = p.inputs; outputs = map (net_tree w.pool.nodes) p.outputs })
       pick None is h = absurd (none_some None t refl h)
       pick (Some p) is h = (p, is, sym (some_eq h))
+
+-- what an entry offers stays in its part while nodes are added
+pub offers_stay : (takes : Service → Bool) (entry n : ℕ) (old new : World) → WorldFits old → Adds old.pool new.pool n → new.reg ≡ old.reg → (s : Service)
+    → (part_in takes entry new).offers s ≡ (part_in takes entry old).offers s
+unfolding part_of
+offers_stay takes entry n old new fits adds same s =
+    ap (λ r. port_trees new.pool.nodes (offer_of r entry s)) same
+    ∙ ports_kept old.pool new.pool n adds old.design (output_level s) (output_widths s) (offer_of old.reg entry s) (λ p e. (offer_fits old.design old.pool old.reg fits.offers entry s p e).outputs)

@@ -83,8 +83,8 @@ offered_done takes s e w ports offered wires regs arrays fetch bus = record {
 -- ---- a unit without state
 
 module _ (e n : ℕ) (old new : World) (w : ExecInputs) (p : ExecPorts) (u : IsUnit e n old new w p) where
-  offered : IsOffered Exec e old new new.design (exec_list w) (exec_ports p)
-  offered = record { nothing = u.nothing; made = u.made; wires = refl; inputs = u.inputs; offers = u.offers }
+  pub unit_offered : IsOffered Exec e old new new.design (exec_list w) (exec_ports p)
+  unit_offered = record { nothing = u.nothing; made = u.made; wires = refl; inputs = u.inputs; offers = u.offers }
 
   unit-inputs : AreInputs new.design e (exec_ports p).inputs (input_shapes Exec)
   unit-inputs = subst (λ (ws : List ℕ). AreInputs new.design e ws (input_shapes Exec)) (sym u.inputs) u.made.inputs
@@ -104,14 +104,14 @@ module _ (e n : ℕ) (old new : World) (w : ExecInputs) (p : ExecPorts) (u : IsU
   unit_builds r most sum = builds_of (Entry e) r most n 7 old new u.adds (u.made.makes r) sum
 
   pub unit_open : AreOpen e new
-  unit_open = offered_open Exec e old new new.design (exec_list w) (exec_ports p) offered
+  unit_open = offered_open Exec e old new new.design (exec_list w) (exec_ports p) unit_offered
 
   module _ (takes : (s : Service) → Bool) where
     pub unit_offer : (part_in takes e new).offers Exec ≡ Some (record { inputs = (exec_ports p).inputs; outputs = map (net_tree new.pool.nodes) (exec_ports p).outputs })
-    unit_offer = offered_in Exec e old new new.design (exec_list w) (exec_ports p) offered takes
+    unit_offer = offered_in Exec e old new new.design (exec_list w) (exec_ports p) unit_offered takes
 
     pub unit_wires : (k : ℕ) (row : PartWire) → (part_in takes e new).wires k ≡ Some row → is_among k (exec_ports p).inputs ≡ true
-    unit_wires = offered_wires Exec e old new new.design (exec_list w) (exec_ports p) offered takes
+    unit_wires = offered_wires Exec e old new new.design (exec_list w) (exec_ports p) unit_offered takes
 
     pub unit_regs : (k : ℕ) (row : PartReg) → (part_in takes e new).regs k ≡ Some row → ⊥
     unit_regs k row h = u.nothing.regs k (ap (λ (rs : List RegRow). (reg_at rs k).owner) (sym u.made.regs) ∙ (reg_in takes e new k row h).0)

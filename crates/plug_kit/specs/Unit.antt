@@ -1,12 +1,12 @@
 -- What the first call of an entry with one service does; and a unit without state, which does all in one call.
-use Rattle.std.specs.Prelude.{◌≡◌, ℕ, [], ◌∷◌, ◌++◌, List}
+use Rattle.std.specs.Prelude.{◌≡◌, ℕ, ◌<◌, [], ◌∷◌, ◌++◌, List, length, None}
 use Rattle.hw_pool.specs.Frame.{Adds}
-use Rattle.hw_module.specs.Rows.{ModuleValue}
+use Rattle.hw_module.specs.Rows.{ModuleValue, wire_at}
 use Rattle.service_reg.specs.declared.service.Service.{Service}
 use Rattle.service_reg.specs.declared.service.Service.TheVariants.{Exec}
 use Rattle.service_ports.specs.declared.ports.ExecPorts.{ExecPorts}
 use Rattle.service_ports.specs.Ports.{Ports, exec_ports, input_shapes, output_widths, output_level}
-use Rattle.service_ports.specs.Registry.{AddsOffer}
+use Rattle.service_ports.specs.Registry.{AddsOffer, offer_of}
 use Rattle.plug_build.specs.World.{World}
 use Rattle.plug_build.specs.Fits.{AreOutputs, WorldFits}
 use Rattle.plug_build.specs.Done.{OwnsNothing}
@@ -18,6 +18,15 @@ pub record IsOffered (s : Service) (e : ℕ) (old new : World) (mid : ModuleValu
   pub nothing : OwnsNothing e old
   pub made : MakesInputs e old.design mid ws (input_shapes s)
   pub wires : new.design.wires ≡ mid.wires
+  pub inputs : p.inputs ≡ ws
+  pub offers : AddsOffer s e p old.reg new.reg
+
+-- entry e, which offered nothing, made the inputs ws of one service in the module base, and other forward wires before or behind them,
+-- and offered the service with these ports
+pub record IsOfferedAmong (s : Service) (e : ℕ) (old new : World) (base mid : ModuleValue) (ws : List ℕ) (p : Ports) : Type 0 where
+  pub nothing : (t : Service) → offer_of old.reg e t ≡ None
+  pub made : MakesInputs e base mid ws (input_shapes s)
+  pub wires : (k : ℕ) → k < length mid.wires → wire_at new.design.wires k ≡ wire_at mid.wires k
   pub inputs : p.inputs ≡ ws
   pub offers : AddsOffer s e p old.reg new.reg
 

@@ -10,6 +10,7 @@
 mod find;
 mod inputs;
 mod law;
+mod read;
 
 pub use find::{own_array, own_reg};
 pub use inputs::{
@@ -17,7 +18,11 @@ pub use inputs::{
     SystemInputs, decoder_inputs, exec_inputs, fetch_inputs, hazard_inputs, input_wire,
     predict_inputs, regfile_inputs, system_inputs,
 };
-pub use law::{nets_carry, runs_are_bounded, services_are_offered, things_are_found, units_build};
+pub use law::{
+    bare_parts_are_done, gates_carry, nets_carry, plain_parts_build, runs_are_bounded,
+    services_are_offered, things_are_found, units_build, wires_beside_inputs,
+};
+pub use read::{cell_net, port_net, reg_net, wire_net};
 
 #[cfg(test)]
 mod tests;

@@ -1,10 +1,11 @@
 -- The things of a part in its runs.
-use Rattle.std.proofs.Common.{◌≡◌, ◌∙◌, ℕ, suc, ◌^◌, ◌<◌, Option, Some, None, refl, ap, subst}
+use Rattle.std.proofs.Common.{◌≡◌, ◌∙◌, ℕ, suc, ◌^◌, ◌<◌, cond, eqb, length, set, Option, Some, None, refl, ap, subst}
+use Rattle.std.specs.Prelude.{All}
 use Rattle.core_words.specs.Values.{choose}
 use Rattle.hw_pool.specs.Meaning.{Env, value}
 use Rattle.plug_part.specs.Part.{Part}
 use Rattle.plug_part.specs.Runs.{IsPartRun, next_value}
-use Rattle.plug_part.specs.Things.{HasWire, HasReg, HasDriver}
+use Rattle.plug_part.specs.Things.{HasWire, HasReg, HasArray, HasDriver}
 
 -- with `reset` a register takes its reset's value, and without it its driver's
 value_at_reset : (env : Env) (start v : ℕ) → env.inputs 1 ≡ 1 → next_value env (Some start) v ≡ start
@@ -33,3 +34,16 @@ module _ (p : Part) (run : ℕ → Env) (is : IsPartRun p run) where
 
   pub wire_is : (wire : ℕ) (f : Env → ℕ) → HasDriver p wire f → (k : ℕ) → (run k).wires wire ≡ f (run k)
   wire_is wire f has k = is.is.wires wire has.row has.driven.tree has.is has.driven.is k ∙ has.driven.value_is (run k)
+
+  module _ (array width bits : ℕ) (enable addr item : Env → ℕ) (has : HasArray p array width bits enable addr item) where
+    pub array_many : (k : ℕ) → length ((run k).cells array) ≡ 2 ^ bits
+    array_many k = is.within.cells_many array has.row has.is k ∙ ap (λ n. 2 ^ n) has.many
+
+    pub array_fits : (k : ℕ) → All (λ c. c < 2 ^ width) ((run k).cells array)
+    array_fits k = subst (λ (w : ℕ). All (λ c. c < 2 ^ w) ((run k).cells array)) has.wide (is.within.cells_fit array has.row has.is k)
+
+    pub array_next : (k : ℕ) → (run (suc k)).cells array
+        ≡ cond (eqb (enable (run k)) 1) (set ((run k).cells array) (addr (run k)) (item (run k))) ((run k).cells array)
+    array_next k =
+        is.is.arrays array has.row has.write has.is has.write_is k
+        ∙ (λ i. cond (eqb (has.enable_is (run k) i) 1) (set ((run k).cells array) (has.addr_is (run k) i) (has.item_is (run k) i)) ((run k).cells array))

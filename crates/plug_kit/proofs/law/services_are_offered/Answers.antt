@@ -1,3 +1,4 @@
+use Rattle.plug_kit.proofs.Rows.{offers_stay}
 use Rattle.plug_kit.proofs.Unit.{offered_open, own_offer, no_other, offered_in, offered_wires, offered_done}
 use Rattle.plug_kit.proofs.law.services_are_offered.Goals as goal
 
@@ -18,3 +19,6 @@ returns-clause-wires c = offered_wires
 
 pub returns-clause-done : goal.returns-clause-done
 returns-clause-done c = offered_done
+
+pub returns-clause-stay : goal.returns-clause-stay
+returns-clause-stay c = offers_stay
