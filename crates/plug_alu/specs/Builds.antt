@@ -9,6 +9,7 @@ use Rattle.plug_part.specs.Things.{HasWire, input_in}
 use Rattle.plug_part.specs.Terms.{PartTerms}
 use Rattle.plug_part.specs.Alone.{OffersOnly}
 use Rattle.plug_part.specs.Meets.{MeetsLaws}
+use Rattle.plug_kit.specs.Bare.{IsBare}
 use Rattle.plug_alu.specs.Machine.{alu_value}
 use Rattle.plug_alu.specs.Law.{is_alu_row}
 
@@ -23,6 +24,11 @@ pub record BuildsAlu (p : Part) : Type 0 where
   pub next_pc : (env : Env) → value env (tree_at ports.outputs 2) ≡ behind (input_in ports 2 env)
   pub trap : (env : Env) → value env (tree_at ports.outputs 3) ≡ 0
   pub fence : (env : Env) → value env (tree_at ports.outputs 6) ≡ 0
+
+-- after the first call: such a part, with no forward wire but its inputs, no register and no array
+pub record BeginsAlu (p : Part) : Type 0 where
+  pub builds : BuildsAlu p
+  pub bare : IsBare p builds.ports.inputs
 
 -- they meet the laws at terms of an entry that claims rows of these alone, and does not offer DataBus
 abbrev pub AluPartsMeetLaws : Type 0

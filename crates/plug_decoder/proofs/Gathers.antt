@@ -1,5 +1,6 @@
 -- Of claims that no word shares, the one of the word is gathered.
-use Rattle.std.proofs.Common.{◌≡◌, ◌∙◌, ◌≢◌, ℕ, ◌^◌, ◌<◌, Bool, true, false, eqb, bit_and, List, length, refl, arith, ap, inl, inr}
+use Rattle.std.proofs.Common.{◌≡◌, ◌∙◌, ◌≢◌, ◌⊎◌, ℕ, zero, suc, ◌^◌, ◌<◌, Bool, true, false, eqb, bit_and, bit_or, List, length, refl, arith, ap, inl, inr}
+use Rattle.std.specs.Int.Bits.{or_zero_r, or_self}
 use Rattle.std.proofs.lemmas.Bool.{cases_eq}
 use Rattle.std.proofs.lemmas.Bool.Decides.{nat_tests}
 use Rattle.core_words.specs.Values.{one_if, choose}
@@ -42,6 +43,33 @@ module _ (word : ℕ) (claim : Claim) where
 
   pub masked_miss : (number : ℕ) → (IsOf word claim → ⊥) → masked word claim number ≡ 0
   masked_miss number h = ap (λ (c : ℕ). choose c number 0) (misses h)
+
+  -- nothing, or the number where the word is of the claim
+  pub hit_is : (hit_of word claim ≡ 0) ⊎ (hit_of word claim ≡ 1)
+  unfolding hit_of
+  hit_is = go (eqb (bit_and word claim.mask) claim.value)
+    where
+      go : (t : Bool) → (one_if t ≡ 0) ⊎ (one_if t ≡ 1)
+      go true = inr refl
+      go false = inl refl
+
+  pub masked_is : (number wanted : ℕ) → (IsOf word claim → number ≡ wanted) → (masked word claim number ≡ 0) ⊎ (masked word claim number ≡ wanted)
+  masked_is number wanted h = elim (cases_eq (bit_and word claim.mask) claim.value) [
+    | inl is ↦ inr (masked_hit number is ∙ h is)
+    | inr other ↦ inl (masked_miss number other)
+  ]
+
+  pub masked_zero : masked word claim 0 ≡ 0
+  masked_zero = elim (cases_eq (bit_and word claim.mask) claim.value) [ inl is ↦ masked_hit 0 is | inr other ↦ masked_miss 0 other ]
+
+-- numbers that are 0 or what is there already change nothing
+pub or_same : (base : ℕ) (g : ℕ → ℕ) (n : ℕ) → ((k : ℕ) → k < n → (g k ≡ 0) ⊎ (g k ≡ base)) → or_from base g n ≡ base
+unfolding or_from
+or_same base g zero h = refl
+or_same base g (suc n) h = elim (h n (omega arith)) [
+  | inl e ↦ (λ i. bit_or (or_same base g n (λ k l. h k (omega arith)) i) (e i)) ∙ or_zero_r base
+  | inr e ↦ (λ i. bit_or (or_same base g n (λ k l. h k (omega arith)) i) (e i)) ∙ or_self base
+]
 
 -- claims of which no two overlap are apart
 pub apart_of : (rows : List Claim) → NoneOverlap rows → AreApart rows

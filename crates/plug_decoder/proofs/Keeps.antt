@@ -16,7 +16,7 @@ use Rattle.plug_law.specs.Table.{row_numbered, table_of, number_of}
 use Rattle.plug_law.specs.Decode.{Decodes, is_call}
 use Rattle.plug_law.proofs.Rows.{row_is, is_met, is_taken}
 use Rattle.plug_decoder.specs.Machine.{claim_at, legal_of, row_of, unit_of, flag_of, writes_of, uses_a, uses_b, has_value}
-use Rattle.plug_decoder.specs.Law.{IsOf, HasNoCall, IsDecoded, AreClaims, DecoderKeepsLaw}
+use Rattle.plug_decoder.specs.Law.{IsOf, HasCallRows, IsDecoded, AreClaims, DecoderKeepsLaw}
 use Rattle.plug_decoder.proofs.Decodes.{decodes}
 
 back : (b : Bool) → eqb (one_if b) 1 ≡ b
@@ -50,17 +50,14 @@ module _ (claims : List Claim) (owners : List ℕ) (set : Set) (owner : ℕ → 
   of_row : (word k : ℕ) → k < length claims → meets word (row_numbered (claim_at claims k).row) ≡ true → IsOf word (claim_at claims k)
   of_row word k l m = ap (bit_and word) (are.mask k l) ∙ (eqb-true _ _ m ∙ sym (are.value k l))
 
-  -- ECALL and EBREAK are of no claim
+  -- a claim that has ECALL or EBREAK is of its row
   same_row : (word number k : ℕ) → number < 57 → k < length claims → meets word (row_numbered number) ≡ true → IsOf word (claim_at claims k) → number ≡ (claim_at claims k).row
   same_row word number k below l m is = one_row word number (claim_at claims k).row below (are.below k l) m (met word k l is)
 
-  call_claimed : (number k : ℕ) → k < length claims → is_call number ≡ true → number ≡ (claim_at claims k).row → ⊥
-  call_claimed number k l call e = both_ways (is_call (claim_at claims k).row) (are.no_call k l) (ap is_call (sym e) ∙ call)
-
-  no_call : HasNoCall claims
-  no_call word k l is = (
-    λ e. call_claimed 38 k l refl (same_row word 38 k (omega arith) l (ap (λ w. meets w (row_numbered 38)) e) is),
-    λ e. call_claimed 39 k l refl (same_row word 39 k (omega arith) l (ap (λ w. meets w (row_numbered 39)) e) is),
+  call_rows : HasCallRows claims
+  call_rows word k l is = (
+    λ e. sym (same_row word 38 k (omega arith) l (ap (λ w. meets w (row_numbered 38)) e) is),
+    λ e. sym (same_row word 39 k (omega arith) l (ap (λ w. meets w (row_numbered 39)) e) is),
   )
 
   -- the claim of a row that the set has
@@ -89,7 +86,7 @@ module _ (claims : List Claim) (owners : List ℕ) (set : Set) (owner : ℕ → 
 
   module _ (word : ℕ) (fits : word < 2 ^ 32) where
     decoded : IsDecoded claims owners word
-    decoded = decodes claims owners are.none_overlap no_call word fits
+    decoded = decodes claims owners are.none_overlap call_rows word fits
 
     whole : bit_and word 0xffffffff ≡ word
     whole = and_mask word 32 ∙ mod-eq_of_lt fits

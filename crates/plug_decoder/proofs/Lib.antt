@@ -3,3 +3,5 @@ pub mod Gathers
 pub mod Decodes
 pub mod Keeps
 pub mod Parts
+pub mod Plans
+pub mod Tables

@@ -10,6 +10,7 @@ use Rattle.plug_part.specs.Things.{HasWire, input_in}
 use Rattle.plug_part.specs.Terms.{PartTerms}
 use Rattle.plug_part.specs.Alone.{OffersOnly}
 use Rattle.plug_part.specs.Meets.{MeetsLaws}
+use Rattle.plug_kit.specs.Bare.{IsBare}
 use Rattle.plug_decoder.specs.Machine.{claim_at, legal_of, row_of, unit_of, flag_of, writes_of, uses_a as reads_a, uses_b as reads_b, has_value}
 use Rattle.plug_decoder.specs.Law.{AreClaims}
 
@@ -24,6 +25,11 @@ pub record BuildsDecoder (rows : List Claim) (owners : List ℕ) (p : Part) : Ty
   pub uses_a : (env : Env) → value env (tree_at ports.outputs 3) ≡ flag_of reads_a rows (input_in ports 0 env)
   pub uses_b : (env : Env) → value env (tree_at ports.outputs 4) ≡ flag_of reads_b rows (input_in ports 0 env)
   pub writes : (env : Env) → value env (tree_at ports.outputs 5) ≡ writes_of (input_in ports 0 env) (flag_of has_value rows (input_in ports 0 env))
+
+-- after the first call: such a part, with no forward wire but its input, no register and no array
+pub record BeginsDecoder (rows : List Claim) (owners : List ℕ) (p : Part) : Type 0 where
+  pub builds : BuildsDecoder rows owners p
+  pub bare : IsBare p builds.ports.inputs
 
 -- they meet the laws for the claims of the plan and their owners
 abbrev pub DecoderPartsMeetLaws : Type 0

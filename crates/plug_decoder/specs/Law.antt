@@ -1,11 +1,11 @@
 -- The law of the decoder: of claims that no word shares, the one of the word is told, and none where it is of none.
-use Rattle.std.specs.Prelude.{◌≡◌, ℕ, suc, ◌<◌, ◌^◌, Bool, false, eqb, List, length, get_or, bit_and}
+use Rattle.std.specs.Prelude.{◌≡◌, ℕ, suc, ◌<◌, ◌^◌, Bool, eqb, List, length, get_or, bit_and}
 use Rattle.std.specs.List.{list_any}
 use Rattle.core_words.specs.Values.{one_if}
 use Rattle.isa_table.specs.declared.claim.Claim.{Claim}
 use Rattle.isa_model.specs.Machine.{Set}
 use Rattle.plug_law.specs.Table.{row_numbered, table_of}
-use Rattle.plug_law.specs.Decode.{DecodeSignals, DecodeLaw, is_call}
+use Rattle.plug_law.specs.Decode.{DecodeSignals, DecodeLaw}
 use Rattle.plug_decoder.specs.Machine.{claim_at, legal_of, row_of, unit_of, flag_of, writes_of, uses_a, uses_b, has_value}
 
 abbrev pub IsOf : (word : ℕ) → Claim → Type 0
@@ -16,9 +16,9 @@ abbrev pub NoneOverlap : List Claim → Type 0
 NoneOverlap rows = (i j : ℕ) → i < length rows → j < length rows → (i ≡ j → ⊥)
     → ((w : ℕ) × (w < 2 ^ 32) × IsOf w (claim_at rows i) × IsOf w (claim_at rows j)) → ⊥
 
--- no claim has ECALL or EBREAK
-abbrev pub HasNoCall : List Claim → Type 0
-HasNoCall rows = (word j : ℕ) → j < length rows → IsOf word (claim_at rows j) → (word ≡ 0x73 → ⊥) × (word ≡ 0x100073 → ⊥)
+-- a claim that has ECALL or EBREAK is of its row
+abbrev pub HasCallRows : List Claim → Type 0
+HasCallRows rows = (word j : ℕ) → j < length rows → IsOf word (claim_at rows j) → (word ≡ 0x73 → (claim_at rows j).row ≡ 38) × (word ≡ 0x100073 → (claim_at rows j).row ≡ 39)
 
 -- what the decoder says of a word; is: any property of rows
 pub record IsDecoded (rows : List Claim) (owners : List ℕ) (word : ℕ) : Type 0 where
@@ -29,12 +29,11 @@ pub record IsDecoded (rows : List Claim) (owners : List ℕ) (word : ℕ) : Type
   pub of_ebreak : word ≡ 0x100073 → (legal_of rows word ≡ 1) × (row_of rows word ≡ 39) × ((is : ℕ → Bool) → flag_of is rows word ≡ one_if (is 39))
   pub of_none : ((j : ℕ) → j < length rows → IsOf word (claim_at rows j) → ⊥) → (word ≡ 0x73 → ⊥) → (word ≡ 0x100073 → ⊥) → legal_of rows word ≡ 0
 
--- the claims of a plan are of the table, but for ECALL and EBREAK, and no word is of two
+-- the claims of a plan are of the table, and no word is of two
 pub record AreClaims (rows : List Claim) : Type 0 where
   pub below : (k : ℕ) → k < length rows → (claim_at rows k).row < 57
   pub mask : (k : ℕ) → k < length rows → (claim_at rows k).mask ≡ (row_numbered (claim_at rows k).row).mask
   pub value : (k : ℕ) → k < length rows → (claim_at rows k).value ≡ (row_numbered (claim_at rows k).row).value
-  pub no_call : (k : ℕ) → k < length rows → is_call (claim_at rows k).row ≡ false
   pub none_overlap : NoneOverlap rows
 
 -- the outputs of each cycle are the equations at its word

@@ -27,7 +27,7 @@ uses_b row = (row_numbered row).uses_b
 abbrev pub has_value : (row : ℕ) → Bool
 has_value row = (row_numbered row).has_value
 
--- ECALL and EBREAK, which no entry claims
+-- ECALL and EBREAK, which the core has in each set
 abbrev pub ecall : Claim
 ecall = record { mask = 0xffffffff; value = 0x73; row = 38 }
 

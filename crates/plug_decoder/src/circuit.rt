@@ -109,7 +109,7 @@ fn with_claims(
     so_far
 }
 
-// The two instructions that no entry claims.
+// The two instructions that are decoded in each core.
 const ECALL: Claim = Claim {
     mask: 0xffff_ffff,
     value: 0x73,

@@ -12,3 +12,7 @@ pub mod Bits
 pub mod Laws
 pub mod Has
 pub mod Parts
+pub mod Drives
+pub mod Driven
+pub mod Begun
+pub mod Found

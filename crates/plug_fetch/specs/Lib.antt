@@ -1,3 +1,6 @@
 pub mod Machine
 pub mod Runs
 pub mod Builds
+pub mod Registers
+pub mod Begun
+pub mod Reads

@@ -1,7 +1,17 @@
 //! The part that fetches instructions: a queue of 1 to 4 places, and one command on the instruction bus at a time.
 //!
-//! The part is equations over numbers (`specs/Machine`), and the law says what they keep.
+//! The part is equations over numbers (`specs/Machine`), and the law says what they keep. The circuit (`circuit`) has these
+//! values, and each register is driven by its equation (`places`, `command`; `specs/Registers`).
 #![tactic(auto)]
+
+mod circuit;
+mod command;
+mod drive;
+mod late;
+mod make;
+mod offer;
+mod places;
+mod read;
 
 ghost use Rattle.std.specs.Prelude.{◌≡◌, ℕ, ◌≤◌, ◌%◌, Bool};
 ghost use Rattle.core_ports.specs.Trace.{Bus};
