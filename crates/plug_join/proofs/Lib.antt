@@ -1,0 +1,4 @@
+pub mod Steps
+pub mod Sums
+pub mod Accepted
+pub mod First
