@@ -1,7 +1,7 @@
 use crate::hosts::{host, words};
 use core_host::{MemHost, Port};
 use core_tool::{Status, core_main};
-use std::alloc::Global;
+use std::alloc::{AllocError, Global};
 use std::test::Fail;
 
 /// ADDI x1, x0, 5; ADDI x2, x1, 7; ADD x3, x1, x2; and a word that is no instruction.
@@ -26,9 +26,36 @@ T pc=0000100c word=00000000 cause=00000002
 /// The configuration of most rows.
 const PLAIN: &str = "reset_pc = 0x80000000";
 
-/// The status of a call without plug-ins.
-fn status_of(alloc: Global, words: &Vec<String>, host: &mut MemHost) -> Status {
-    core_main(alloc, words, &mut Vec::new(alloc), host)
+/// How a call without plug-ins ended, and its host.
+#[derive(Drop)]
+struct Answer {
+    status: Status,
+    host: MemHost,
+}
+
+impl Answer {
+    /// Whether it ended so, with this text on the main port and this line on that of notes.
+    fn is(&self, status: Status, main: &str, notes: &str) -> bool {
+        let text = self.host.pushed(Port::Main).as_slice();
+        let line = self.host.pushed(Port::Notes).as_slice();
+        self.status == status && text == main.as_bytes() && line == notes.as_bytes()
+    }
+}
+
+/// Calls with these words.
+fn call_words(alloc: Global, words: &Vec<String>, mut host: MemHost) -> Answer {
+    let status = core_main(alloc, words, &mut Vec::new(alloc), &mut host);
+    Answer { status, host }
+}
+
+/// Calls with words that stand in a row with a space between any two.
+fn call(alloc: Global, text: &str, host: MemHost) -> Result<Answer, AllocError> {
+    Ok(call_words(alloc, &words(alloc, text)?, host))
+}
+
+/// The call `gen c`, with these bytes as the configuration.
+fn generate(alloc: Global, config: &[u8], fails: &[u32], bite: u32) -> Result<Answer, AllocError> {
+    call(alloc, "gen c", host(alloc, config, &[], fails, bite)?)
 }
 
 /// Configurations that `gen` refuses, and the line on each.
@@ -231,132 +258,184 @@ const CALLS: &[(&str, &str, Status, &str, &str)] = &[
     ),
 ];
 
+#[test]
+fn each_refusal_has_its_line(rt: HostRuntime) -> Result<(), Fail> {
+    let alloc = rt.alloc();
+    for (text, line) in REFUSED {
+        let answer = generate(alloc, text.as_bytes(), &[], 0)?;
+        assert!(rt; answer.is(Status::ConfigRefused, "", *line), "{text}");
+    }
+    Ok(())
+}
+
+#[test]
+fn other_words_are_no_call(rt: HostRuntime) -> Result<(), Fail> {
+    let alloc = rt.alloc();
+    let none = call_words(alloc, &Vec::new(alloc), host(alloc, &[], &[], &[], 0)?);
+    assert!(rt; none.is(Status::Usage, "", "usage\n"), "no words");
+    for text in USAGE {
+        let answer = call(alloc, *text, host(alloc, &[], &[], &[], 0)?)?;
+        assert!(rt; answer.is(Status::Usage, "", "usage\n"), "{text}");
+    }
+    Ok(())
+}
+
 /// Each call moves all bytes at once, or one at a time.
 #[test]
 fn each_call_has_its_end(rt: HostRuntime) -> Result<(), Fail> {
     let alloc = rt.alloc();
-    for (text, line) in REFUSED {
-        let mut host = host(alloc, text.as_bytes(), &[], &[], 0)?;
-        let status = status_of(alloc, &words(alloc, "gen c")?, &mut host);
-        assert_eq!(rt; status, Status::ConfigRefused, "{text}");
-        let notes = host.pushed(Port::Notes).as_slice();
-        assert_eq!(rt; notes, line.as_bytes(), "{text}");
-        assert!(rt; host.pushed(Port::Main).is_empty(), "{text}");
-    }
-    let mut none = host(alloc, b"", &[], &[], 0)?;
-    let status = status_of(alloc, &Vec::new(alloc), &mut none);
-    assert_eq!(rt; status, Status::Usage, "no words");
-    assert_eq!(rt; none.pushed(Port::Notes).as_slice(), b"usage\n".as_slice());
-    for text in USAGE {
-        let mut host = host(alloc, b"", &[], &[], 0)?;
-        let status = status_of(alloc, &words(alloc, *text)?, &mut host);
-        assert_eq!(rt; status, Status::Usage, "{text}");
-        let notes = host.pushed(Port::Notes).as_slice();
-        assert_eq!(rt; notes, b"usage\n".as_slice(), "{text}");
-        assert!(rt; host.pushed(Port::Main).is_empty(), "{text}");
-    }
     for (text, config, status, main, notes) in CALLS {
         for bite in [0, 1] {
-            let mut host = host(alloc, config.as_bytes(), &IMAGE, &[], bite)?;
-            let answer = status_of(alloc, &words(alloc, *text)?, &mut host);
-            assert_eq!(rt; answer, *status, "{text}");
-            let pushed = host.pushed(Port::Main).as_slice();
-            assert_eq!(rt; pushed, main.as_bytes(), "{text}");
-            let line = host.pushed(Port::Notes).as_slice();
-            assert_eq!(rt; line, notes.as_bytes(), "{text}");
+            let answer = call(
+                alloc,
+                *text,
+                host(alloc, config.as_bytes(), &IMAGE, &[], bite)?,
+            )?;
+            assert!(rt; answer.is(*status, *main, *notes), "{text}");
         }
     }
     Ok(())
 }
 
-/// One call finds the file of a configuration, two read it, and three write the text of a core.
+/// The text of a core with the reset pc of most rows.
+fn core_text(alloc: Global) -> Result<Answer, AllocError> {
+    generate(alloc, PLAIN.as_bytes(), &[], 0)
+}
+
+/// Whether the text of that core is written whole, and no line.
+fn is_core(answer: &Answer) -> bool {
+    let core = answer.host.pushed(Port::Main).as_slice();
+    answer.status == Status::Done
+        && answer.host.pushed(Port::Notes).is_empty()
+        && core.starts_with(b"module core(".as_slice())
+        && core.ends_with(b"pc <= 32'h80000000; else pc <= pc_next;\nendmodule\n".as_slice())
+}
+
+#[test]
+fn a_core_is_written_whole(rt: HostRuntime) -> Result<(), Fail> {
+    let whole = core_text(rt.alloc())?;
+    assert!(rt; is_core(&whole));
+    Ok(())
+}
+
+/// One call of the host finds the file of a configuration, two read it, and three write the text of a core: the call that
+/// fails, the status, and the line.
+const FAILED: &[(u32, Status, &str)] = &[
+    (1, Status::ReadFault, "read fault\n"),
+    (2, Status::ReadFault, "read fault\n"),
+    (3, Status::ReadFault, "read fault\n"),
+    (4, Status::WriteFault, ""),
+    (5, Status::WriteFault, ""),
+    (6, Status::WriteFault, ""),
+    (7, Status::Done, ""),
+    (12, Status::Done, ""),
+];
+
+/// Whether a call ended so with this line, and the text as it is where this call of the host fails: none before the fifth,
+/// and whole behind the sixth.
+fn is_cut(core: &Vec<u8>, answer: &Answer, call: u32, status: Status, line: &str) -> bool {
+    let text = answer.host.pushed(Port::Main);
+    let notes = answer.host.pushed(Port::Notes).as_slice();
+    answer.status == status
+        && notes == line.as_bytes()
+        && core.as_slice().starts_with(text.as_slice())
+        && text.is_empty() == (call < 5)
+        && (text.len() == core.len()) == (call > 6)
+}
+
 #[test]
 fn a_failed_call_cuts_the_output_off(rt: HostRuntime) -> Result<(), Fail> {
     let alloc = rt.alloc();
-    let mut whole = host(alloc, PLAIN.as_bytes(), &[], &[], 0)?;
-    let status = status_of(alloc, &words(alloc, "gen c")?, &mut whole);
-    assert_eq!(rt; status, Status::Done);
-    assert!(rt; whole.pushed(Port::Notes).is_empty());
-    let core = whole.pushed(Port::Main).as_slice();
-    assert!(rt; core.starts_with(b"module core(".as_slice()));
-    assert!(rt; core.ends_with(b"pc <= 32'h80000000; else pc <= pc_next;\nendmodule\n".as_slice()));
-    for (call, status) in [
-        (1, Status::ReadFault),
-        (2, Status::ReadFault),
-        (3, Status::ReadFault),
-        (4, Status::WriteFault),
-        (5, Status::WriteFault),
-        (6, Status::WriteFault),
-        (7, Status::Done),
-        (12, Status::Done),
-    ] {
-        let mut host = host(alloc, PLAIN.as_bytes(), &[], &[call], 0)?;
-        let answer = status_of(alloc, &words(alloc, "gen c")?, &mut host);
-        assert_eq!(rt; answer, status, "{call}");
-        let pushed = host.pushed(Port::Main).as_slice();
-        assert!(rt; core.starts_with(pushed), "{call}");
-        assert_eq!(rt; pushed.is_empty(), call < 5, "{call}");
-        assert_eq!(rt; pushed.len() == core.len(), call > 6, "{call}");
-        let notes = if call < 4 { "read fault\n" } else { "" };
-        let line = host.pushed(Port::Notes).as_slice();
-        assert_eq!(rt; line, notes.as_bytes(), "{call}");
+    let whole = core_text(alloc)?;
+    let core = whole.host.pushed(Port::Main);
+    for (call, status, line) in FAILED {
+        let answer = generate(alloc, PLAIN.as_bytes(), &[*call], 0)?;
+        assert!(rt; is_cut(core, &answer, *call, *status, *line), "{call}");
     }
-    // The third push of 100 bytes fails.
-    let mut cut = host(alloc, PLAIN.as_bytes(), &[], &[6], 100)?;
-    let status = status_of(alloc, &words(alloc, "gen c")?, &mut cut);
-    assert_eq!(rt; status, Status::WriteFault);
-    assert_eq!(rt; cut.pushed(Port::Main).len(), 200);
-    assert!(rt; core.starts_with(cut.pushed(Port::Main).as_slice()));
-    assert!(rt; cut.pushed(Port::Notes).is_empty());
-    // The line on a refusal is cut off, that of the rules behind its first piece.
-    for (text, config, call, notes) in [
-        ("gen c", "reset_pc = 2147483646", 4, ""),
-        ("rules c", "", 5, "rules 4 service=fetch"),
-    ] {
-        let mut host = host(alloc, config.as_bytes(), &[], &[call], 0)?;
-        let status = status_of(alloc, &words(alloc, text)?, &mut host);
-        assert_eq!(rt; status, Status::WriteFault, "{text}");
-        assert!(rt; host.pushed(Port::Main).is_empty(), "{text}");
-        let line = host.pushed(Port::Notes).as_slice();
-        assert_eq!(rt; line, notes.as_bytes(), "{text}");
+    Ok(())
+}
+
+/// Whether the first 200 bytes of the text are written, and no line.
+fn is_cut_at_200(core: &Vec<u8>, answer: &Answer) -> bool {
+    let text = answer.host.pushed(Port::Main).as_slice();
+    answer.status == Status::WriteFault
+        && text.len() == 200
+        && core.as_slice().starts_with(text)
+        && answer.host.pushed(Port::Notes).is_empty()
+}
+
+/// The third push of 100 bytes fails.
+#[test]
+fn two_pushes_are_whole(rt: HostRuntime) -> Result<(), Fail> {
+    let alloc = rt.alloc();
+    let whole = core_text(alloc)?;
+    let cut = generate(alloc, PLAIN.as_bytes(), &[6], 100)?;
+    assert!(rt; is_cut_at_200(whole.host.pushed(Port::Main), &cut));
+    Ok(())
+}
+
+/// Lines on refusals that are cut off, that of the rules behind its first piece: the words, the configuration, the call of
+/// the host that fails, and what is on the port of notes.
+const CUT_LINES: &[(&str, &str, u32, &str)] = &[
+    ("gen c", "reset_pc = 2147483646", 4, ""),
+    ("rules c", "", 5, "rules 4 service=fetch"),
+];
+
+#[test]
+fn a_failed_push_cuts_the_line_off(rt: HostRuntime) -> Result<(), Fail> {
+    let alloc = rt.alloc();
+    for (text, config, fails, notes) in CUT_LINES {
+        let answer = call(
+            alloc,
+            *text,
+            host(alloc, config.as_bytes(), &[], &[*fails], 0)?,
+        )?;
+        assert!(rt; answer.is(Status::WriteFault, "", *notes), "{text}");
     }
-    // Three calls read the configuration of a run, and three the image.
-    for call in [7, 8, 9] {
-        let mut host = host(alloc, PLAIN.as_bytes(), &IMAGE, &[call], 0)?;
-        let status = status_of(alloc, &words(alloc, "run c i --trace")?, &mut host);
-        assert_eq!(rt; status, Status::WriteFault, "{call}");
-        let pushed = host.pushed(Port::Main).as_slice();
-        assert!(rt; LINES.as_bytes().starts_with(pushed), "{call}");
-        assert!(rt; pushed.len() < LINES.len(), "{call}");
-        assert!(rt; host.pushed(Port::Notes).is_empty(), "{call}");
+    Ok(())
+}
+
+/// Whether a part of the lines of a run is written, from its start, and no line on its end.
+fn are_cut_lines(answer: &Answer) -> bool {
+    let text = answer.host.pushed(Port::Main).as_slice();
+    answer.status == Status::WriteFault
+        && LINES.as_bytes().starts_with(text)
+        && text.len() < LINES.len()
+        && answer.host.pushed(Port::Notes).is_empty()
+}
+
+/// Three calls of the host read the configuration of a run, and three the image.
+#[test]
+fn a_failed_push_cuts_the_events_off(rt: HostRuntime) -> Result<(), Fail> {
+    let alloc = rt.alloc();
+    for fails in [7, 8, 9] {
+        let host = host(alloc, PLAIN.as_bytes(), &IMAGE, &[fails], 0)?;
+        let answer = call(alloc, "run c i --trace", host)?;
+        assert!(rt; are_cut_lines(&answer), "{fails}");
     }
     Ok(())
 }
 
 #[test]
-fn long_files_are_refused(rt: HostRuntime) -> Result<(), Fail> {
+fn long_configurations_are_refused(rt: HostRuntime) -> Result<(), Fail> {
     let alloc = rt.alloc();
     let mut comment = vec![in alloc; b'#'; 1_048_576]?;
-    let mut whole = host(alloc, &comment, &[], &[], 0)?;
-    let status = status_of(alloc, &words(alloc, "gen c")?, &mut whole);
-    assert_eq!(rt; status, Status::Done);
+    let whole = generate(alloc, &comment, &[], 0)?;
+    assert_eq!(rt; whole.status, Status::Done);
     comment.push(b'#')?;
-    let mut long = host(alloc, &comment, &[], &[], 0)?;
-    let status = status_of(alloc, &words(alloc, "gen c")?, &mut long);
-    assert_eq!(rt; status, Status::ConfigRefused);
-    assert_eq!(rt;
-        long.pushed(Port::Notes).as_slice(),
-        b"config long\n".as_slice()
-    );
-    assert!(rt; long.pushed(Port::Main).is_empty());
+    let long = generate(alloc, &comment, &[], 0)?;
+    assert!(rt; long.is(Status::ConfigRefused, "", "config long\n"));
+    Ok(())
+}
+
+#[test]
+fn long_images_are_refused(rt: HostRuntime) -> Result<(), Fail> {
+    let alloc = rt.alloc();
     let image = vec![in alloc; 0u8; 65_537]?;
     for bite in [0, 1] {
-        let mut host = host(alloc, PLAIN.as_bytes(), &image, &[], bite)?;
-        let status = status_of(alloc, &words(alloc, "run c i --trace")?, &mut host);
-        assert_eq!(rt; status, Status::ImageRefused);
-        let line = host.pushed(Port::Notes).as_slice();
-        assert_eq!(rt; line, b"image outside addr=80010000\n".as_slice());
-        assert!(rt; host.pushed(Port::Main).is_empty());
+        let host = host(alloc, PLAIN.as_bytes(), &image, &[], bite)?;
+        let answer = call(alloc, "run c i --trace", host)?;
+        assert!(rt; answer.is(Status::ImageRefused, "", "image outside addr=80010000\n"));
     }
     Ok(())
 }

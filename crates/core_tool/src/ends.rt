@@ -3,6 +3,7 @@ ghost use Rattle.core_host.specs.declared.host.Port.{Port};
 ghost use Rattle.core_host.specs.declared.host.Port.TheVariants.{Notes};
 ghost use Rattle.core_host.specs.Outside.{Rose, Appends, IsCut};
 ghost use Rattle.core_tool.specs.Lines.{image_line, joined, key_line, line_of, refusal_line, status_of, stopped_line, want_ending};
+ghost use Rattle.core_tool.specs.RuleLines.{rule_line};
 
 use crate::Status;
 use crate::lines::{Piece, push_pieces};
@@ -94,7 +95,7 @@ pub fn push_line<H: Host>(host: &mut H, end: &CallEnd) -> Result<(), HostFailed>
         CallEnd::Written | CallEnd::Accepted | CallEnd::Unwritten => push_pieces(host, &[]),
         CallEnd::BadWords => push_pieces(host, &[Piece::Text("usage\n")]),
         CallEnd::Refused(refusal) => push_pieces(host, &refusal_pieces(refusal)),
-        CallEnd::RulesRefused(refusal) => push_pieces(host, &rule_pieces(refusal)),
+        CallEnd::RulesRefused(refusal) => push_rule(host, refusal),
         CallEnd::BadFile => push_pieces(host, &[Piece::Text("read fault\n")]),
         CallEnd::BadImage(fault) => push_pieces(host, &image_pieces(*fault)),
         CallEnd::OutOfMemory => push_pieces(host, &[Piece::Text("no memory\n")]),
@@ -115,6 +116,25 @@ pub fn push_line<H: Host>(host: &mut H, end: &CallEnd) -> Result<(), HostFailed>
             cycles,
         } => push_pieces(host, &stopped_pieces(*cause, *pc, *events, *cycles)),
     }
+}
+
+/// Pushes the line of the rule that a configuration breaks on the port of notes. It takes no memory.
+///
+/// # Errors
+/// `HostFailed` where a push failed: then a part of the line is pushed, from its start.
+pub fn push_rule<H: Host>(host: &mut H, refusal: &RuleRefusal) -> Result<(), HostFailed>
+    ensures whole { OnOk result (Appends (H.pushed host.old Notes) (rule_line refusal.now) (H.pushed host.new Notes)) }
+    ensures part { OnErr result (IsCut (H.pushed host.old Notes) (rule_line refusal.now) (H.pushed host.new Notes)) }
+    ensures cause { OnErr result (Rose (H.write_faults host.old) (H.write_faults host.new)) }
+    ensures others { (p : Port) → ¬ (p ≡ Notes) → H.pushed host.new p ≡ H.pushed host.old p }
+    ensures left { (m : ℕ) → H.left host.new m ≡ H.left host.old m }
+    ensures files { H.files host.new ≡ H.files host.old }
+    ensures numbers { (m : ℕ) → H.given host.old m → H.given host.new m }
+    ensures names { (m : ℕ) → H.given host.old m → H.opened host.new m ≡ H.opened host.old m }
+    ensures reads { H.read_faults host.old ≤ H.read_faults host.new }
+    ensures writes { H.write_faults host.old ≤ H.write_faults host.new }
+{
+    push_pieces(host, &rule_pieces(refusal))
 }
 
 /// The line that says why a configuration is refused.

@@ -12,4 +12,5 @@ mod status;
 mod words;
 
 pub use call::core_main;
+pub use ends::push_rule;
 pub use status::Status;

@@ -1,16 +1,16 @@
 use crate::own::{Given, Own, PLAIN, Params, entry, spec};
-use plug_api::{Place, Plugin};
-use plug_kinds::{Kind, KindBox, SpecBox};
+use plug_api::Place;
+use plug_kinds::{Kind, KindState, is_spec};
 use service_reg::Service;
 use std::alloc::{AllocError, Global};
 use std::test::Fail;
 
 /// What a plug-in says once it is given parameters: its delay, or the fault.
-fn taken(alloc: Global, plug: &mut KindBox, params: Params) -> Result<String, AllocError> {
+fn taken(alloc: Global, state: &mut KindState, params: Params) -> Result<String, AllocError> {
     let given = entry(alloc, "any", params)?;
-    match plug.configure(alloc, &given) {
+    match state.configure(alloc, &given) {
         Ok(()) => {
-            let (cycles, waits) = plug.spec().latency;
+            let (cycles, waits) = state.spec().latency;
             format!(in alloc; "{cycles} {waits}")
         }
         Err(fault) => format!(in alloc; "{fault:?}"),
@@ -327,16 +327,22 @@ const SPECS: &[(Own, bool)] = &[
 fn kinds_take_their_parameters(rt: HostRuntime) -> Result<(), Fail> {
     let alloc = rt.alloc();
     for (kind, params, wanted) in PARAMS {
-        let mut plug = KindBox::new(alloc, *kind)?;
-        let before = plug.spec().latency;
-        let found = taken(alloc, &mut plug, *params)?;
+        let mut state = KindState::new(alloc, *kind)?;
+        let before = state.spec().latency;
+        let found = taken(alloc, &mut state, *params)?;
         assert_eq!(rt; found.as_str(), *wanted);
         if found.as_str().ends_with("}") {
-            assert_eq!(rt; plug.spec().latency, before, "{wanted}");
+            assert_eq!(rt; state.spec().latency, before, "{wanted}");
         }
     }
-    for (own, is_some) in SPECS {
-        assert_eq!(rt; SpecBox::of(spec(alloc, *own)?).is_some(), *is_some);
+    Ok(())
+}
+
+#[test]
+fn not_all_may_be_said(rt: HostRuntime) -> Result<(), Fail> {
+    let alloc = rt.alloc();
+    for (own, may) in SPECS {
+        assert_eq!(rt; is_spec(&spec(alloc, *own)?), *may);
     }
     Ok(())
 }
