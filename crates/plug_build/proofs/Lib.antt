@@ -1,3 +1,4 @@
+pub mod Apart
 pub mod Frame
 pub mod Holds
 pub mod Leaves

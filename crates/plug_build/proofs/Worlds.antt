@@ -1,5 +1,5 @@
 -- What fits a world while it grows, and when a service is offered.
-use Rattle.std.proofs.Common.{◌≡◌, ◌∙◌, ℕ, zero, suc, ◌+◌, ◌<◌, ◌≤◌, List, [], ◌∷◌, ◌++◌, length, get_or, refl, arith, ap, sym, subst, Some, inl, inr, ◌⊎◌, length-append}
+use Rattle.std.proofs.Common.{◌≡◌, ◌∙◌, ℕ, zero, suc, ◌+◌, ◌<◌, ◌≤◌, List, [], ◌∷◌, ◌++◌, length, get_or, refl, arith, ap, sym, subst, None, Some, inl, inr, ◌⊎◌, length-append}
 use Rattle.std.proofs.lemmas.Bool.{cases_lt, cases_eq}
 use Rattle.std.proofs.Math.ListN.{get_or-append}
 use Rattle.hw_pool.specs.Nodes.{PoolValue}
@@ -15,10 +15,13 @@ use Rattle.service_reg.specs.declared.service.Service.{Service}
 use Rattle.service_reg.specs.declared.service.Service.TheVariants.{Fetch, Predict, Decoder, RegFile, Hazard, Exec, DataBus, System}
 use Rattle.service_ports.specs.declared.ports.ExecOffer.{ExecOffer}
 use Rattle.service_ports.specs.Ports.{Ports, exec_ports, input_shapes, output_widths, output_level}
-use Rattle.service_ports.specs.Registry.{RegistryValue, Offered, single}
+use Rattle.service_ports.specs.Registry.{RegistryValue, Offered, single, exec_of}
+use Rattle.plug_part.specs.Owned.{ports_of}
 use Rattle.plug_build.specs.World.{World, Builds}
 use Rattle.hw_module.specs.Rights.{Rights, Makes}
-use Rattle.plug_build.specs.Fits.{AreInputs, AreOutputs, OfferFits, OffersFit, WorldFits}
+use Rattle.plug_build.specs.Fits.{AreInputs, AreNew, AreOutputs, OfferFits, OfferKey, OffersFit, OffersOnce, WorldFits, exec_at, ports_at}
+use Rattle.plug_build.specs.Fits.OfferKey.{The, ExecAt}
+use Rattle.plug_build.proofs.Apart.{exec_at-end, exec_at-more, exec_of-none, offers_apart}
 use Rattle.hw_module.proofs.Scopes.{kept_grown}
 
 module _ (old new : ModuleValue) (n : ℕ) (grows : Grows old new n) where
@@ -46,12 +49,15 @@ module _ (old new : ModuleValue) (n : ℕ) (grows : Grows old new n) where
     offer-grown s by p h = record {
       inputs = inputs_grown by p.inputs (input_shapes s) h.inputs;
       outputs = outputs_grown (output_level s) p.outputs (output_widths s) h.outputs;
+      apart = h.apart;
     }
 
     pub offers_grown : (reg : RegistryValue) → OffersFit old pool reg → OffersFit new pool' reg
     offers_grown reg h = record {
       singles = λ s o e. offer-grown s o.by o.ports (h.singles s o e);
       execs = λ j o l e. offer-grown Exec o.by (exec_ports o.ports) (h.execs j o l e);
+      once = h.once;
+      apart = h.apart;
     }
 
 -- ---- a service more
@@ -103,8 +109,8 @@ some_eq e = cc
 module _ (d : ModuleValue) (pool : PoolValue) (old new : RegistryValue) (fit : OffersFit d pool old) where
   -- a service that one entry alone offers
   pub offered_fits : (s : Service) (o : Offered) → single new s ≡ Some o → ((t : Service) → (t ≡ s → ⊥) → single new t ≡ single old t) → new.execs ≡ old.execs
-      → OfferFits d pool s o.by o.ports → OffersFit d pool new
-  offered_fits s o is others execs h = record {
+      → OfferFits d pool s o.by o.ports → AreNew old o.ports.inputs → OffersFit d pool new
+  offered_fits s o is others execs h fresh = record {
     singles = λ t x e. elim (cases_service t s) [
       | inl same ↦
           let at : single new t ≡ Some o = ap (single new) same ∙ is in
@@ -114,23 +120,55 @@ module _ (d : ModuleValue) (pool : PoolValue) (old new : RegistryValue) (fit : O
     ];
     execs = λ k x l e.
         fit.execs k x (subst (λ (es : List ExecOffer). k < length es) execs l) (subst (λ (es : List ExecOffer). get_or es k x ≡ x) execs e);
+    once = subst OffersOnce (sym execs) fit.once;
+    apart = offers_apart old new (The s) o.ports (ap ports_of is) from fresh fit.apart;
   }
+    where
+      from : (x : OfferKey) → (x ≡ The s) ⊎ (ports_at new x ≡ ports_at old x)
+      from (The t) = elim (cases_service t s) [ inl same ↦ inl (ap The same) | inr other ↦ inr (ap ports_of (others t other)) ]
+      from (ExecAt k) = inr (ap (λ (es : List ExecOffer). exec_at es k) execs)
 
-  pub exec_fits : (o : ExecOffer) → ((t : Service) → single new t ≡ single old t) → new.execs ≡ old.execs ++ o ∷ [] → OfferFits d pool Exec o.by (exec_ports o.ports) → OffersFit d pool new
-  exec_fits o singles execs h = record {
+  -- an offer of Exec by an entry that had none
+  pub exec_fits : (o : ExecOffer) → ((t : Service) → single new t ≡ single old t) → new.execs ≡ old.execs ++ o ∷ [] → OfferFits d pool Exec o.by (exec_ports o.ports)
+      → exec_of o.by old.execs ≡ None → AreNew old (exec_ports o.ports).inputs → OffersFit d pool new
+  exec_fits o singles execs h none fresh = record {
     singles = λ t x e. fit.singles t x (sym (singles t) ∙ e);
-    execs = λ k x l e.
-        let many : length (old.execs ++ o ∷ []) ≡ length old.execs + 1 = length-append old.execs (o ∷ []) in
-        let l2 : k < length (old.execs ++ o ∷ []) = subst (λ (es : List ExecOffer). k < length es) execs l in
-        let e2 : get_or (old.execs ++ o ∷ []) k x ≡ x = subst (λ (es : List ExecOffer). get_or es k x ≡ x) execs e in
-        elim (cases_lt k (length old.execs)) [
-          | inl there ↦ fit.execs k x there (sym (get_or-append old.execs (o ∷ []) x k there) ∙ e2)
-          | inr past ↦
-              let at : k ≡ length old.execs = omega arith in
-              let x_is : o ≡ x = sym (get_or-end old.execs o x) ∙ (ap (λ (j : ℕ). get_or (old.execs ++ o ∷ []) j x) (sym at) ∙ e2) in
-              subst (λ (y : ExecOffer). OfferFits d pool Exec y.by (exec_ports y.ports)) x_is h
-        ];
+    execs = λ k x l e. elim (picks k x l e) [
+      | inl old_one ↦ fit.execs k x old_one.0 old_one.1
+      | inr last ↦ subst (λ (y : ExecOffer). OfferFits d pool Exec y.by (exec_ports y.ports)) last.1 h
+    ];
+    once = λ i j x y li ei lj ej same. elim (picks i x li ei) [
+      | inl a ↦ elim (picks j y lj ej) [
+        | inl b ↦ fit.once i j x y a.0 a.1 b.0 b.1 same
+        | inr b ↦ absurd (exec_of-none old.execs o.by i x none a.0 a.1 (same ∙ sym (ap (λ (q : ExecOffer). q.by) b.1)))
+      ]
+      | inr a ↦ elim (picks j y lj ej) [
+        | inl b ↦ absurd (exec_of-none old.execs o.by j y none b.0 b.1 (sym same ∙ sym (ap (λ (q : ExecOffer). q.by) a.1)))
+        | inr b ↦ a.0 ∙ sym b.0
+      ]
+    ];
+    apart = offers_apart old new (ExecAt (length old.execs)) (exec_ports o.ports) (ap (λ (es : List ExecOffer). exec_at es (length old.execs)) execs ∙ exec_at-end old.execs o) from fresh fit.apart;
   }
+    where
+      -- an offer is one of the old, or the last
+      picks : (k : ℕ) (x : ExecOffer) → k < length new.execs → get_or new.execs k x ≡ x → ((k < length old.execs) × (get_or old.execs k x ≡ x)) ⊎ ((k ≡ length old.execs) × (o ≡ x))
+      picks k x l e =
+          let many : length (old.execs ++ o ∷ []) ≡ length old.execs + 1 = length-append old.execs (o ∷ []) in
+          let l2 : k < length (old.execs ++ o ∷ []) = subst (λ (es : List ExecOffer). k < length es) execs l in
+          let e2 : get_or (old.execs ++ o ∷ []) k x ≡ x = subst (λ (es : List ExecOffer). get_or es k x ≡ x) execs e in
+          elim (cases_lt k (length old.execs)) [
+            | inl there ↦ inl (there, sym (get_or-append old.execs (o ∷ []) x k there) ∙ e2)
+            | inr past ↦
+                let at : k ≡ length old.execs = omega arith in
+                inr (at, sym (get_or-end old.execs o x) ∙ (ap (λ (j : ℕ). get_or (old.execs ++ o ∷ []) j x) (sym at) ∙ e2))
+          ]
+
+      from : (x : OfferKey) → (x ≡ ExecAt (length old.execs)) ⊎ (ports_at new x ≡ ports_at old x)
+      from (The t) = inr (ap ports_of (singles t))
+      from (ExecAt k) = elim (cases_eq k (length old.execs)) [
+        | inl here ↦ inl (ap ExecAt here)
+        | inr other ↦ inr (ap (λ (es : List ExecOffer). exec_at es k) execs ∙ exec_at-more old.execs o k other)
+      ]
 
 -- ---- a call of a box, from what its steps did
 

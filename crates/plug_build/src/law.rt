@@ -1,4 +1,4 @@
-ghost use Rattle.std.specs.Prelude.{◌≡◌, ℕ, ◌+◌, ◌∷◌, ◌++◌, ◌≤◌, [], Bool, false, None, Some, suc, true};
+ghost use Rattle.std.specs.Prelude.{◌≡◌, ℕ, ◌+◌, ◌∷◌, ◌++◌, ◌<◌, ◌≤◌, [], Bool, List, None, Some, false, get_or, length, suc, true};
 ghost use Rattle.hw_pool.specs.Nodes.{IsPool, PoolValue};
 ghost use Rattle.hw_pool.specs.Frame.{Adds};
 ghost use Rattle.hw_module.specs.declared.rows.Owner.{Owner};
@@ -16,10 +16,11 @@ ghost use Rattle.service_ports.specs.Registry.{
   Offered,
   OffersBy,
   RegistryValue,
+  exec_of,
   offer_of,
   single,
 };
-ghost use Rattle.plug_part.specs.Owned.{offers};
+ghost use Rattle.plug_part.specs.Owned.{is_among, offers};
 ghost use Rattle.plug_part.specs.Runs.{IsPartRun, IsRun};
 ghost use Rattle.plug_build.specs.World.{
   Builds,
@@ -28,7 +29,7 @@ ghost use Rattle.plug_build.specs.World.{
   late_rights,
   part_in,
 };
-ghost use Rattle.plug_build.specs.Fits.{OfferFits, OffersFit, WorldFits};
+ghost use Rattle.plug_build.specs.Fits.{AreNew, OfferFits, OffersFit, OffersOnce, WorldFits};
 ghost use Rattle.plug_build.specs.Done.{AreOpen, OwnsNothing};
 ghost use Rattle.plug_build.specs.Frame.{Leaves};
 ghost use Rattle.plug_build.specs.Run.{run_of};
@@ -61,16 +62,21 @@ pub fn parts_run()
         → IsPartRun (part_in takes entry w) (run_of w.design w.pool.nodes s ins) }
 {}
 
-/// The law of fitting: what fits still does while the module and the pool grow, and where one more offer fits. This does
-/// nothing: its contract is the law.
+/// The law of fitting: what fits still does while the module and the pool grow, and where one more offer fits, whose inputs are
+/// inputs of no other, as forward wires that were made later are; and where an entry offers Exec, its offer is what it offers.
+/// This does nothing: its contract is the law.
 pub fn worlds_stay_fit()
     ensures grown { (old new : World) (n m : ℕ) → WorldFits old → Adds old.pool new.pool n → Grows old.design new.design m
         → (DriversFit old.design new.pool → DriversFit new.design new.pool)
         → (OffersFit new.design new.pool old.reg → OffersFit new.design new.pool new.reg) → WorldFits new }
     ensures offered { (d : ModuleValue) (pool : PoolValue) (old new : RegistryValue) → OffersFit d pool old → (s : Service) (o : Offered)
         → single new s ≡ Some o → ((t : Service) → (t ≡ s → ⊥) → single new t ≡ single old t) → new.execs ≡ old.execs
-        → OfferFits d pool s o.by o.ports → OffersFit d pool new }
+        → OfferFits d pool s o.by o.ports → AreNew old o.ports.inputs → OffersFit d pool new }
     ensures offered_exec { (d : ModuleValue) (pool : PoolValue) (old new : RegistryValue) → OffersFit d pool old → (o : ExecOffer)
         → ((t : Service) → single new t ≡ single old t) → new.execs ≡ old.execs ++ o ∷ [] → OfferFits d pool Exec o.by (exec_ports o.ports)
-        → OffersFit d pool new }
+        → exec_of o.by old.execs ≡ None → AreNew old (exec_ports o.ports).inputs → OffersFit d pool new }
+    ensures later { (d : ModuleValue) (pool : PoolValue) (reg : RegistryValue) → OffersFit d pool reg → (ws : List ℕ)
+        → ((k : ℕ) → is_among k ws ≡ true → length d.wires ≤ k) → AreNew reg ws }
+    ensures execs { (os : List ExecOffer) → OffersOnce os → (k : ℕ) (o : ExecOffer) → k < length os → get_or os k o ≡ o
+        → exec_of o.by os ≡ Some (exec_ports o.ports) }
 {}

@@ -78,6 +78,9 @@ module _ (e : ℕ) (old a base mid : ModuleValue) (wire_a wire_b : ℕ) (ws : Li
   pub apart_b : is_among wire_b ws ≡ false
   apart_b = apart wire_b b_below
 
+  pub behind_old : (k : ℕ) → is_among k ws ≡ true → length old.wires ≤ k
+  behind_old k is = let past = made.fresh k is in let m = first.count in let n = second.count in omega arith
+
   pub b_behind_a : wire_b ≡ wire_a + 1
   b_behind_a = let n = first.number in let m = first.count in let k = second.number in omega arith
 

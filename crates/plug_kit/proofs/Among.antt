@@ -1,5 +1,5 @@
 -- An entry with one service and other forward wires, and a service that one entry alone offers.
-use Rattle.std.proofs.Common.{◌≡◌, ◌∙◌, ℕ, ◌<◌, List, map, ap, sym, Bool, true, false, eqb, cond, Option, Some, None, inl, inr, refl, length}
+use Rattle.std.proofs.Common.{◌≡◌, ◌∙◌, ℕ, ◌<◌, ◌≤◌, List, map, ap, sym, Bool, true, false, eqb, cond, Option, Some, None, inl, inr, refl, length}
 use Rattle.std.proofs.lemmas.Bool.{both_ways, eq-eqb, cases_Bool, cases_lt}
 use Rattle.std.proofs.lemmas.List.{get_or_past}
 use Rattle.hw_pool.specs.Frame.{Adds}
@@ -19,9 +19,10 @@ use Rattle.plug_part.specs.Of.{net_tree, tree_option}
 use Rattle.plug_part.specs.Things.{HasWire}
 use Rattle.plug_part.specs.Alone.{OffersOnly}
 use Rattle.plug_build.specs.World.{World, part_in}
-use Rattle.plug_build.specs.Fits.{AreInputs, AreOutputs, WorldFits}
+use Rattle.plug_build.specs.Fits.{AreApart, AreInputs, AreOutputs, WorldFits}
 use Rattle.plug_build.specs.Done.{AreOpen}
 use Rattle.plug_build.proofs.Offers.{input_of_some, among_inputs}
+use Rattle.plug_build.proofs.Apart.{later_new}
 use Rattle.plug_build.proofs.Worlds.{cases_service, offered_fits, world_fits}
 use Rattle.plug_kit.specs.Unit.{IsOfferedAmong}
 use Rattle.plug_kit.proofs.Bare.{differs}
@@ -86,10 +87,12 @@ only_free takes s e w ports only k apart = elim (cases_Bool (is_own_input w.reg 
 -- a world fits in which an entry offered what it alone may
 pub single_fits : (s : Service) (e n m : ℕ) (old new : World) (p : Ports) → WorldFits old → Adds old.pool new.pool n → Grows old.design new.design m
     → (DriversFit old.design new.pool → DriversFit new.design new.pool) → AddsOffer s e p old.reg new.reg → single new.reg s ≡ Some (record { by = e; ports = p })
-    → new.reg.execs ≡ old.reg.execs → AreInputs new.design e p.inputs (input_shapes s) → AreOutputs new.design new.pool (output_level s) p.outputs (output_widths s) → WorldFits new
-single_fits s e n m old new p fits adds grows drivers offers is execs inputs outputs =
+    → new.reg.execs ≡ old.reg.execs → AreInputs new.design e p.inputs (input_shapes s) → AreOutputs new.design new.pool (output_level s) p.outputs (output_widths s)
+    → AreApart p.inputs → ((k : ℕ) → is_among k p.inputs ≡ true → length old.design.wires ≤ k) → WorldFits new
+single_fits s e n m old new p fits adds grows drivers offers is execs inputs outputs apart fresh =
     world_fits old new n m fits adds grows drivers
-    (λ f. offered_fits new.design new.pool old.reg new.reg f s (record { by = e; ports = p }) is offers.singles execs (record { inputs = inputs; outputs = outputs }))
+    (λ f. offered_fits new.design new.pool old.reg new.reg f s (record { by = e; ports = p }) is offers.singles execs (record { inputs = inputs; outputs = outputs; apart = apart })
+    (later_new old.design old.pool old.reg fits.offers p.inputs fresh))
 
 -- a forward wire of the part is there while the module grows
 pub wire_stays : (takes : Service → Bool) (e n : ℕ) (old new : World) → Grows old.design new.design n → (k width : ℕ) → HasWire (part_in takes e old) k width → k < length old.design.wires

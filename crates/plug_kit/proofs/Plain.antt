@@ -18,7 +18,7 @@ use Rattle.plug_kit.specs.Bare.{IsBare}
 use Rattle.plug_kit.specs.Plain.{IsPlain}
 use Rattle.plug_kit.proofs.Bare.{only_offer}
 use Rattle.plug_kit.proofs.Rows.{reg_in, array_in}
-use Rattle.plug_kit.proofs.Unit.{offered_open, offered_wires}
+use Rattle.plug_kit.proofs.Unit.{offered_apart, offered_new, offered_open, offered_wires}
 
 no-rights : Rights
 no-rights = record { wires = λ k. false; locked = λ k. false; outs = λ k. false }
@@ -33,7 +33,8 @@ module _ (s : Service) (e n : ℕ) (old new : World) (ws : List ℕ) (p : Ports)
   pub plain_fits : WorldFits new
   plain_fits =
       world_fits old new n (length ws) u.fits u.adds (u.made.makes no-rights).grows (u.made.drivers new.pool)
-      (λ f. offered_fits new.design new.pool old.reg new.reg f s (record { by = e; ports = p }) u.is u.offers.singles u.execs (record { inputs = inputs-fit; outputs = u.outputs }))
+      (λ f. offered_fits new.design new.pool old.reg new.reg f s (record { by = e; ports = p }) u.is u.offers.singles u.execs (record { inputs = inputs-fit; outputs = u.outputs; apart = offered_apart s e old new new.design ws p offered })
+      (offered_new s e old new new.design ws p offered u.fits))
 
   pub plain_builds : (r : Rights) (most : ℕ) → n + length ws ≤ most → Builds (Entry e) r most old new
   plain_builds r most sum = builds_of (Entry e) r most n (length ws) old new u.adds (u.made.makes r) sum

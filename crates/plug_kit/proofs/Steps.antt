@@ -1,6 +1,6 @@
 -- Inputs that are made, one step behind the other.
 use Rattle.std.proofs.Common.{◌≡◌, ◌∙◌, ℕ, ◌+◌, ◌<◌, List, [], ◌∷◌, ◌++◌, length, arith, ap, sym, subst, true, false, eqb, ◌⊎◌, None, inl, inr, length-append, refl}
-use Rattle.std.proofs.lemmas.Bool.{cases_lt, or_cases, or_left, or_right, eqb-true, eq-eqb, both_ways}
+use Rattle.std.proofs.lemmas.Bool.{cases_Bool, cases_lt, or_cases, or_left, or_right, eqb-true, eq-eqb, both_ways}
 use Rattle.std.proofs.lemmas.List.{get_or_past}
 use Rattle.hw_pool.specs.Nodes.{PoolValue}
 use Rattle.hw_module.specs.declared.rows.Owner.TheVariants.{Pipe, Entry}
@@ -10,7 +10,7 @@ use Rattle.hw_module.specs.Checked.{DriversFit}
 use Rattle.hw_module.specs.Rights.{Rights, Makes}
 use Rattle.hw_module.proofs.Makes.{makes_then}
 use Rattle.plug_part.specs.Owned.{is_among}
-use Rattle.plug_build.specs.Fits.{AreInputs}
+use Rattle.plug_build.specs.Fits.{AreApart, AreInputs}
 use Rattle.plug_build.proofs.Worlds.{inputs_grown}
 use Rattle.plug_kit.specs.Made.{MakesInputs}
 
@@ -19,6 +19,7 @@ pub one_input : (by entry : ℕ) (old new : ModuleValue) (wire width level : ℕ
     → new.room + 1 ≡ old.room → ((pool : PoolValue) → DriversFit old pool → DriversFit new pool) → MakesInputs by old new (wire ∷ []) ((width, level) ∷ [])
 one_input by entry old new wire width level same makes at count made regs arrays outs room drivers = record {
   inputs = (record { there = omega arith; owner = ap (λ (r : WireRow). r.owner) made ∙ ap Entry (sym same); width = ap (λ (r : WireRow). r.width) made; level = ap (λ (r : WireRow). r.level) made }, tt);
+  apart = (refl, tt);
   makes = λ r. subst (λ (n : ℕ). Makes (Entry n) r old new 1) (sym same) (makes r);
   all = λ k h l. or_left (eqb k wire) false (eq-eqb k wire (omega arith));
   fresh = λ k e. elim (or_cases (eqb k wire) false e) [
@@ -57,6 +58,28 @@ among-either k (w ∷ ws) vs e = elim (or_cases (eqb k w) (is_among k (ws ++ vs)
   | inr later ↦ elim (among-either k ws vs later) [ inl a ↦ inl (or_right (eqb k w) _ a) | inr b ↦ inr b ]
 ]
 
+among-there : (d : ModuleValue) (by : ℕ) (ws : List ℕ) (ss : List (ℕ × ℕ)) (k : ℕ) → AreInputs d by ws ss → is_among k ws ≡ true → k < length d.wires
+among-there d by [] ss k are e = absurd (both_ways false refl e)
+among-there d by (w ∷ ws) [] k are e = absurd are
+among-there d by (w ∷ ws) (s ∷ ss) k are e = elim (or_cases (eqb k w) (is_among k ws) e) [
+  | inl here ↦ let at : k ≡ w = eqb-true k w here in let there : w < length d.wires = are.0.there in omega arith
+  | inr later ↦ among-there d by ws ss k are.1 later
+]
+
+-- lists with different numbers that share none
+apart-append : (ws vs : List ℕ) → AreApart ws → AreApart vs → ((k : ℕ) → is_among k ws ≡ true → is_among k vs ≡ true → ⊥) → AreApart (ws ++ vs)
+apart-append [] vs a b share = b
+apart-append (w ∷ ws) vs a b share = (
+  elim (cases_Bool (is_among w (ws ++ vs))) [
+    | inl among ↦ absurd (elim (among-either w ws vs among) [
+      | inl first ↦ both_ways (is_among w ws) a.0 first
+      | inr second ↦ share w (or_left (eqb w w) _ (eq-eqb w w refl)) second
+    ])
+    | inr free ↦ free
+  ],
+  apart-append ws vs a.1 b (λ k h. share k (or_right (eqb k w) _ h)),
+)
+
 pub inputs_then : (by : ℕ) (a b c : ModuleValue) (ws vs : List ℕ) (ss ts : List (ℕ × ℕ)) → MakesInputs by a b ws ss → MakesInputs by b c vs ts → MakesInputs by a c (ws ++ vs) (ss ++ ts)
 inputs_then by a b c ws vs ss ts first second =
     let many : length (ws ++ vs) ≡ length ws + length vs = length-append ws vs in
@@ -65,6 +88,10 @@ inputs_then by a b c ws vs ss ts first second =
     let grows = (second.makes none).grows in
     record {
       inputs = inputs-append c by ws vs ss ts (inputs_grown b c (length vs) grows by ws ss first.inputs) second.inputs;
+      apart = apart-append ws vs first.apart second.apart (λ k x y.
+          let below = among-there b by ws ss k first.inputs x in
+          let above = second.fresh k y in
+          omega (arith, below, above));
       makes = λ r. makes_then (Entry by) r a b c (length ws) (length vs) (length (ws ++ vs)) (first.makes r) (second.makes r) (omega arith);
       all = λ k h l. elim (cases_lt k (length b.wires)) [
         | inl below ↦ among-left k ws vs (first.all k h below)

@@ -16,9 +16,10 @@ use Rattle.plug_part.specs.Part.{PartWire, PartReg, PartArray, PortTrees}
 use Rattle.plug_part.specs.Owned.{is_among, is_input_of, is_own_input, is_predict_input, is_fetch_out, is_bus_out, offers}
 use Rattle.plug_part.specs.Of.{net_tree, tree_option, write_trees}
 use Rattle.plug_build.specs.World.{World, Builds, part_in}
-use Rattle.plug_build.specs.Fits.{AreInputs, WorldFits}
+use Rattle.plug_build.specs.Fits.{AreApart, AreInputs, AreNew, WorldFits}
 use Rattle.plug_build.specs.Done.{AreOpen, IsDone}
 use Rattle.plug_build.proofs.Offers.{input_of_some, own_input_from, among_inputs}
+use Rattle.plug_build.proofs.Apart.{later_new}
 use Rattle.plug_build.proofs.Worlds.{cases_service, world_fits, exec_fits, builds_of}
 use Rattle.plug_kit.specs.declared.inputs.ExecInputs.{ExecInputs}
 use Rattle.plug_kit.specs.Made.{exec_list}
@@ -50,6 +51,13 @@ module _ (s : Service) (e : ℕ) (old new : World) (mid : ModuleValue) (ws : Lis
       let among = input-among k h.0 h.1 in
       ap (λ (rows : List WireRow). (wire_at rows k).driver) u.wires
       ∙ inputs_bare e old.design mid ws (input_shapes s) u.made k (among_inputs mid new.pool e ws (input_shapes s) k u.made.inputs among).0 among
+
+  -- its inputs are different forward wires, and inputs of no other offer
+  pub offered_apart : AreApart p.inputs
+  offered_apart = subst AreApart (sym u.inputs) u.made.apart
+
+  pub offered_new : WorldFits old → AreNew old.reg p.inputs
+  offered_new fits = subst (AreNew old.reg) (sym u.inputs) (later_new old.design old.pool old.reg fits.offers ws u.made.fresh)
 
   module _ (takes : (t : Service) → Bool) where
     pub offered_in : (part_in takes e new).offers s ≡ Some (record { inputs = p.inputs; outputs = map (net_tree new.pool.nodes) p.outputs })
@@ -89,6 +97,12 @@ module _ (e n : ℕ) (old new : World) (w : ExecInputs) (p : ExecPorts) (u : IsU
   unit-inputs : AreInputs new.design e (exec_ports p).inputs (input_shapes Exec)
   unit-inputs = subst (λ (ws : List ℕ). AreInputs new.design e ws (input_shapes Exec)) (sym u.inputs) u.made.inputs
 
+  unit-apart : AreApart (exec_ports p).inputs
+  unit-apart = offered_apart Exec e old new new.design (exec_list w) (exec_ports p) unit_offered
+
+  unit-new : AreNew old.reg (exec_ports p).inputs
+  unit-new = offered_new Exec e old new new.design (exec_list w) (exec_ports p) unit_offered u.fits
+
   singles : (s : Service) → single new.reg s ≡ single old.reg s
   singles s = elim (cases_service s Exec) [
     | inl same ↦ ap (single new.reg) same ∙ ap (single old.reg) (sym same)
@@ -98,7 +112,8 @@ module _ (e n : ℕ) (old new : World) (w : ExecInputs) (p : ExecPorts) (u : IsU
   pub unit_fits : WorldFits new
   unit_fits =
       world_fits old new n 7 u.fits u.adds (u.made.makes no-rights).grows (u.made.drivers new.pool)
-      (λ f. exec_fits new.design new.pool old.reg new.reg f (record { by = e; ports = p }) singles u.execs (record { inputs = unit-inputs; outputs = u.outputs }))
+      (λ f. exec_fits new.design new.pool old.reg new.reg f (record { by = e; ports = p }) singles u.execs (record { inputs = unit-inputs; outputs = u.outputs; apart = unit-apart })
+      (u.nothing.offers Exec) unit-new)
 
   pub unit_builds : (r : Rights) (most : ℕ) → n + 7 ≤ most → Builds (Entry e) r most old new
   unit_builds r most sum = builds_of (Entry e) r most n 7 old new u.adds (u.made.makes r) sum

@@ -7,7 +7,7 @@ use Rattle.hw_module.specs.Rights.{Rights, Makes}
 use Rattle.hw_module.specs.Checked.{DriversFit}
 use Rattle.service_ports.specs.declared.ports.HazardStage.{HazardStage}
 use Rattle.plug_part.specs.Owned.{is_among}
-use Rattle.plug_build.specs.Fits.{AreInputs}
+use Rattle.plug_build.specs.Fits.{AreApart, AreInputs}
 use Rattle.plug_kit.specs.declared.inputs.FetchInputs.{FetchInputs}
 use Rattle.plug_kit.specs.declared.inputs.PredictInputs.{PredictInputs}
 use Rattle.plug_kit.specs.declared.inputs.DecoderInputs.{DecoderInputs}
@@ -45,9 +45,10 @@ stage_list w = w.writes ∷ w.rd ∷ w.ready ∷ w.value ∷ []
 abbrev pub stage_shapes : List (ℕ × ℕ)
 stage_shapes = (1, 5) ∷ (5, 5) ∷ (1, 5) ∷ (32, 5) ∷ []
 
--- exactly these forward wires were made, with these widths and levels, and none has a driver
+-- exactly these forward wires were made, each another, with these widths and levels, and none has a driver
 pub record MakesInputs (by : ℕ) (old new : ModuleValue) (ws : List ℕ) (ss : List (ℕ × ℕ)) : Type 0 where
   pub inputs : AreInputs new by ws ss
+  pub apart : AreApart ws
   pub makes : (r : Rights) → Makes (Entry by) r old new (length ws)
   pub all : (k : ℕ) → length old.wires ≤ k → k < length new.wires → is_among k ws ≡ true
   pub fresh : (k : ℕ) → is_among k ws ≡ true → length old.wires ≤ k

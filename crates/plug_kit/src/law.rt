@@ -26,7 +26,7 @@ ghost use Rattle.plug_part.specs.Runs.{IsPartRun};
 ghost use Rattle.plug_part.specs.Things.{HasWire};
 ghost use Rattle.plug_part.specs.Alone.{OffersOnly};
 ghost use Rattle.plug_build.specs.World.{Builds, World, part_in};
-ghost use Rattle.plug_build.specs.Fits.{AreInputs, AreOutputs, IsInput, IsOutput, WorldFits};
+ghost use Rattle.plug_build.specs.Fits.{AreApart, AreInputs, AreNew, AreOutputs, IsInput, IsOutput, WorldFits};
 ghost use Rattle.plug_build.specs.Done.{AreOpen, IsDone};
 ghost use Rattle.plug_kit.specs.declared.inputs.ExecInputs.{ExecInputs};
 ghost use Rattle.plug_kit.specs.Bounds.{IsBounded, no_scope, own_scope, part_scope};
@@ -82,8 +82,9 @@ pub fn nets_carry()
         → Carries s d pool width most f net → IsOutput d pool most width net }
 {}
 
-/// The law of entries with one service: after the first call its inputs are open, it offers no other service, and its part has
-/// it with these ports and no forward wire but its inputs; what the part offers stays while nodes are added; and an entry
+/// The law of entries with one service: after the first call its inputs are open, different forward wires and inputs of no other
+/// offer, it offers no other service, and its part has it with these ports and no forward wire but its inputs; what the part
+/// offers stays while nodes are added; and an entry
 /// whose part has no other forward wire, and each register and array driven, and that drives no output of the core, is
 /// done. This does nothing: its contract is the law.
 pub fn services_are_offered()
@@ -92,6 +93,8 @@ pub fn services_are_offered()
     ensures no_other { (s : Service) (e : ℕ) (old new : World) (mid : ModuleValue) (ws : List ℕ) (p : Ports) → IsOffered s e old new mid ws p → (t : Service) → (t ≡ s → ⊥) → offer_of new.reg e t ≡ None }
     ensures offers { (s : Service) (e : ℕ) (old new : World) (mid : ModuleValue) (ws : List ℕ) (p : Ports) → IsOffered s e old new mid ws p → (takes : Service → Bool) → (part_in takes e new).offers s
         ≡ Some (record { inputs = p.inputs; outputs = map (net_tree new.pool.nodes) p.outputs }) }
+    ensures apart { (s : Service) (e : ℕ) (old new : World) (mid : ModuleValue) (ws : List ℕ) (p : Ports) → IsOffered s e old new mid ws p → AreApart p.inputs }
+    ensures unshared { (s : Service) (e : ℕ) (old new : World) (mid : ModuleValue) (ws : List ℕ) (p : Ports) → IsOffered s e old new mid ws p → WorldFits old → AreNew old.reg p.inputs }
     ensures wires { (s : Service) (e : ℕ) (old new : World) (mid : ModuleValue) (ws : List ℕ) (p : Ports) → IsOffered s e old new mid ws p → (takes : Service → Bool) (k : ℕ) (row : PartWire) → (part_in takes e new).wires k ≡ Some row
         → is_among k p.inputs ≡ true }
     ensures stay { (takes : Service → Bool) (entry n : ℕ) (old new : World) → WorldFits old → Adds old.pool new.pool n → new.reg ≡ old.reg
@@ -166,7 +169,7 @@ pub fn bare_parts_are_done()
 {}
 
 /// The law of one service beside other forward wires: its inputs are open, the entry offers it alone, and the other forward
-/// wires are no inputs. And a world fits in which an entry offered what it alone may; a forward wire of a part is there while the
+/// wires are no inputs. And a world fits in which an entry offered what it alone may, whose inputs are new and each another; a forward wire of a part is there while the
 /// module grows; and an undriven one that is no input is one of the module. This does nothing: its contract is the law.
 pub fn wires_beside_inputs()
     ensures are_open { (s : Service) (e : ℕ) (old new : World) (base mid : ModuleValue) (ws : List ℕ) (p : Ports) → IsOfferedAmong s e old new base mid ws p → AreOpen e new }
@@ -179,7 +182,8 @@ pub fn wires_beside_inputs()
     ensures fits { (s : Service) (e n m : ℕ) (old new : World) (p : Ports) → WorldFits old → Adds old.pool new.pool n → Grows old.design new.design m
         → (DriversFit old.design new.pool → DriversFit new.design new.pool) → AddsOffer s e p old.reg new.reg
         → single new.reg s ≡ Some (record { by = e; ports = p }) → new.reg.execs ≡ old.reg.execs → AreInputs new.design e p.inputs (input_shapes s)
-        → AreOutputs new.design new.pool (output_level s) p.outputs (output_widths s) → WorldFits new }
+        → AreOutputs new.design new.pool (output_level s) p.outputs (output_widths s) → AreApart p.inputs
+        → ((k : ℕ) → is_among k p.inputs ≡ true → length old.design.wires ≤ k) → WorldFits new }
     ensures stays { (takes : Service → Bool) (e n : ℕ) (old new : World) → Grows old.design new.design n → (k width : ℕ)
         → HasWire (part_in takes e old) k width → k < length old.design.wires → HasWire (part_in takes e new) k width }
     ensures wires { (takes : Service → Bool) (e : ℕ) (w : World) (k width level : ℕ) → is_own_input w.reg e k ≡ false

@@ -1,5 +1,5 @@
 use Rattle.plug_kit.proofs.Rows.{offers_stay}
-use Rattle.plug_kit.proofs.Unit.{offered_open, own_offer, no_other, offered_in, offered_wires, offered_done}
+use Rattle.plug_kit.proofs.Unit.{offered_apart, offered_new, offered_open, own_offer, no_other, offered_in, offered_wires, offered_done}
 use Rattle.plug_kit.proofs.law.services_are_offered.Goals as goal
 
 pub returns-clause-are_open : goal.returns-clause-are_open
@@ -16,6 +16,12 @@ returns-clause-offers c = offered_in
 
 pub returns-clause-wires : goal.returns-clause-wires
 returns-clause-wires c = offered_wires
+
+pub returns-clause-apart : goal.returns-clause-apart
+returns-clause-apart c = offered_apart
+
+pub returns-clause-unshared : goal.returns-clause-unshared
+returns-clause-unshared c = offered_new
 
 pub returns-clause-done : goal.returns-clause-done
 returns-clause-done c = offered_done

@@ -1,4 +1,4 @@
-use Rattle.std.proofs.Common.{◌≡◌, ◌∙◌, ℕ, List, [], ◌∷◌, arith, ap, sym, subst, refl, cond, Bool, true, false, Option, None, Some}
+use Rattle.std.proofs.Common.{◌≡◌, ◌∙◌, ℕ, ◌≤◌, List, [], ◌∷◌, length, arith, ap, sym, subst, refl, cond, Bool, true, false, Option, None, Some}
 use Rattle.hw_pool.specs.Meaning.{Env}
 use Rattle.hw_gates.specs.Places.{place, worth}
 use Rattle.hw_gates.proofs.Steps.{adds_of}
@@ -17,7 +17,7 @@ use Rattle.plug_part.specs.Owned.{is_among}
 use Rattle.plug_part.specs.Of.{tree_option}
 use Rattle.plug_part.specs.Part.{PartWire}
 use Rattle.plug_api.specs.Calls.{takes_of}
-use Rattle.plug_build.specs.Fits.{AreInputs, IsInput}
+use Rattle.plug_build.specs.Fits.{AreApart, AreInputs, IsInput}
 use Rattle.plug_build.specs.World.{World, part_in, world_of}
 use Rattle.plug_build.proofs.Worlds.{builds_of}
 use Rattle.plug_kinds.specs.declared.kind.Kind.TheVariants as kind
@@ -29,7 +29,7 @@ use Rattle.plug_kit.proofs.Bare.{input_wires}
 use Rattle.plug_kit.proofs.Rows.{part_wire, reg_in, array_in, wire_in}
 use Rattle.plug_hazard.specs.Builds.{IsOpenWire, a_in, b_in, hold_in, now_in}
 use Rattle.plug_hazard.specs.Found.{plain_row}
-use Rattle.plug_hazard.proofs.Early.{MakesWire, a_is_least, a_stays, b_stays, all_makes, apart_a, apart_b, b_behind_a, only_these, wire_a_in, wire_b_in}
+use Rattle.plug_hazard.proofs.Early.{MakesWire, a_is_least, a_stays, b_stays, all_makes, apart_a, apart_b, b_behind_a, behind_old, only_these, wire_a_in, wire_b_in}
 use Rattle.plug_hazard.proofs.plugin.HazardPlugin.early.Goals as goal
 
 -- the entry stays while it makes its things
@@ -143,7 +143,9 @@ returns-clause-fits c =
     (offered c)
     (subst (λ (x : ℕ). single c.offer_hazard.new.self Hazard ≡ Some (record { by = x; ports = p })) (by c) c.offer_hazard.ensures.single)
     (ap (λ (r : RegistryValue). r.execs) c.offer_hazard.ensures.is)
-    (port_inputs c) c.hazard_nets-ports.ensures.outputs
+    (port_inputs c) c.hazard_nets-ports.ensures.outputs (subst AreApart (sym c.hazard_nets-ports.ensures.inputs) (inputs c).apart)
+    (subst (λ (ws : List ℕ). (k : ℕ) → is_among k ws ≡ true → length c.args.b.now.design.wires ≤ k) (sym c.hazard_nets-ports.ensures.inputs)
+    (behind_old _ _ _ _ _ _ _ _ (one c) (two c) (inputs c)))
 
 pub returns-clause-adds : goal.returns-clause-adds
 returns-clause-adds c = builds_of _ _ _ 77 18 (old-world c) (new-world c) (adds_of _ _ 77 c.hazard_nets-ports.ensures.step) (makes c _) (omega arith)

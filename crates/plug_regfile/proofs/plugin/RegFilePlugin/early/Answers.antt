@@ -29,7 +29,7 @@ use Rattle.plug_kit.proofs.Bounds.{nothing_bounded}
 use Rattle.plug_kit.proofs.Carries.{carry_output}
 use Rattle.plug_kit.proofs.Rows.{part_offer, part_array, reg_in, array_in}
 use Rattle.plug_kit.proofs.Things.{only_new_array}
-use Rattle.plug_kit.proofs.Unit.{offered_open, no_other, offered_in, offered_wires}
+use Rattle.plug_kit.proofs.Unit.{offered_apart, offered_new, offered_open, no_other, offered_in, offered_wires}
 use Rattle.plug_regfile.specs.Machine.{read_of}
 use Rattle.plug_regfile.proofs.plugin.RegFilePlugin.early.Goals as goal
 
@@ -81,11 +81,13 @@ returns-clause-fits c =
     let fit : OfferFits d q RegFile c.entry.result (regfile_ports p) = record {
       inputs = subst (λ (by : ℕ). AreInputs d by (regfile_ports p).inputs (input_shapes RegFile)) (sym (by_entry c)) (inputs_there c);
       outputs = (carry_output no_scope d q 32 2 _ p.a n.a, (carry_output no_scope d q 32 2 _ p.b n.b, tt));
+      apart = offered_apart RegFile c.args.b.now.entry (old_world c) (new_world c) _ _ _ (offered c);
     } in
     world_fits (old_world c) (new_world c) 12 6 c.requires.fits n.adds (all_made c no_rights).grows
     (λ f. c.array-array.ensures.drivers q (c.regfile_inputs-wires.ensures.made.drivers q f))
     (λ f. offered_fits d q c.args.reg.now c.offer_regfile.new.self f RegFile (record { by = c.entry.result; ports = regfile_ports p }) c.offer_regfile.ensures.single c.offer_regfile.ensures.adds.singles
-    (ap (λ (r : RegistryValue). r.execs) c.offer_regfile.ensures.is) fit)
+    (ap (λ (r : RegistryValue). r.execs) c.offer_regfile.ensures.is) fit
+    (offered_new RegFile c.args.b.now.entry (old_world c) (new_world c) _ _ _ (offered c) c.requires.fits))
 
 pub returns-clause-adds : goal.returns-clause-adds
 returns-clause-adds c = builds_of _ _ _ 12 6 _ _ c.read_cells-ports.ensures.adds (all_made c _) (omega arith)
