@@ -10,7 +10,7 @@ use Rattle.plug_law.specs.Predict.{IsPredict}
 use Rattle.plug_fetch.specs.Machine.{Now, response_of, idle_of, kept_of, moved_of, fills_of, held_of, put_of, pc_of, given_of, owed_of, dropped_of, address_of}
 use Rattle.plug_fetch.specs.Machine as machine
 use Rattle.plug_fetch.specs.Runs.{AreBits, IsFetch, Shows}
-use Rattle.plug_fetch.proofs.Tests.{back}
+use Rattle.plug_fetch.proofs.Truths.{back}
 use Rattle.plug_fetch.proofs.Turns.{Turn, Places, now_at, IsPlaces, listed}
 use Rattle.plug_fetch.proofs.Turns as turns
 use Rattle.plug_fetch.proofs.Invariant.{IsGiven}

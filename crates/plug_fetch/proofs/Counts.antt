@@ -7,7 +7,7 @@ use Rattle.bus_law.specs.Protocol.{is_accepted}
 use Rattle.bus_law.specs.Prompt.{given_from}
 use Rattle.bus_law.proofs.Standing.{from_by_now}
 use Rattle.plug_law.specs.Past.{accepted_since, count_since}
-use Rattle.plug_fetch.proofs.Tests.{ltb_off}
+use Rattle.plug_fetch.proofs.Truths.{ltb_off}
 
 module _ (b : Bus) where
   pub none_accepted : (r t : ℕ) → t ≤ suc r → accepted_since b r t ≡ 0

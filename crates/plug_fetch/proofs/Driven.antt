@@ -1,17 +1,18 @@
 -- The registers of places, with their equations, through steps.
-use Rattle.std.proofs.Common.{◌≡◌, ◌∙◌, ℕ, suc, ◌+◌, ◌*◌, ◌<◌, ◌≤◌, Bool, true, false, cond, ltb, nat_eq, length, Option, refl, ap, sym, subst, arith}
+use Rattle.std.proofs.Common.{◌≡◌, ◌∙◌, ℕ, suc, ◌+◌, ◌*◌, ◌<◌, ◌≤◌, Bool, true, false, cond, ltb, nat_eq, List, length, Option, refl, ap, sym, subst, arith}
 use Rattle.std.proofs.lemmas.Bool.Decides.{nat_tests}
 use Rattle.hw_pool.specs.Nodes.{PoolValue}
 use Rattle.hw_pool.specs.Meaning.{Env}
 use Rattle.hw_expr.specs.declared.net.Net.{Net}
 use Rattle.hw_gates.specs.Places.{Step, value_in}
-use Rattle.hw_gates.proofs.Steps.{has_in, kept, stays, stays_in}
+use Rattle.hw_gates.proofs.Steps.{has_in, kept, none, stays, stays_in}
+use Rattle.hw_module.specs.declared.rows.RegRow.{RegRow}
 use Rattle.hw_pool.specs.Scope.{Scope}
 use Rattle.hw_module.specs.Rows.{ModuleValue, reg_at}
 use Rattle.plug_fetch.specs.declared.places.Cycle.{Cycle}
 use Rattle.plug_fetch.specs.Machine.{Now, moved_of, fills_of, put_of, held_of, moved, fills, put, held_after}
 use Rattle.plug_fetch.specs.Machine as machine
-use Rattle.plug_fetch.specs.Registers.{IsCycle, IsCycleIn, IsOpenPlace, IsOpenCommand, IsNext, IsPlaceDriven, seen_in, moved_at, fills_at, put_at}
+use Rattle.plug_fetch.specs.Registers.{IsCycle, IsCycleIn, IsOpenPlace, IsOpenCommand, IsNext, IsPlaceDriven, IsCommandDriven, seen_in, moved_at, fills_at, put_at}
 
 -- ---- the last place
 
@@ -154,3 +155,20 @@ place_stays m m' old new n entry first depth i now now' step same told h = recor
   word = next_stays m m' old new n entry (first + 4 * i + 2) 32 _ _ _ step (same _ (omega arith) (omega arith)) (λ env. ap (λ (x : Now). put depth x i x.payload x.word) (told env)) h.word;
   error = next_stays m m' old new n entry (first + 4 * i + 3) 1 _ _ _ step (same _ (omega arith) (omega arith)) (λ env. ap (λ (x : Now). put depth x i x.failed x.error) (told env)) h.error;
 }
+
+-- where the registers stay, so does what they are driven with
+module _ (m m' : ModuleValue) (pool : PoolValue) (entry : ℕ) (same : m'.regs ≡ m.regs) (now : Env → Now) where
+  row-same : (k : ℕ) → reg_at m'.regs k ≡ reg_at m.regs k
+  row-same k = ap (λ (rows : List RegRow). reg_at rows k) same
+
+  pub places_same : (first depth i : ℕ) → IsPlaceDriven m pool entry first depth i now → IsPlaceDriven m' pool entry first depth i now
+  places_same first depth i h = place_stays m m' pool pool 0 entry first depth i now now (none pool) (λ k a b. row-same k) (λ env. refl) h
+
+  pub command_same : (reg reset_pc depth : ℕ) → IsCommandDriven m pool entry reg reset_pc depth now → IsCommandDriven m' pool entry reg reset_pc depth now
+  command_same reg reset_pc depth h = record {
+    given = next_stays m m' pool pool 0 entry reg 1 _ _ _ (none pool) (row-same _) (λ env. refl) h.given;
+    owed = next_stays m m' pool pool 0 entry (reg + 1) 1 _ _ _ (none pool) (row-same _) (λ env. refl) h.owed;
+    dropped = next_stays m m' pool pool 0 entry (reg + 2) 1 _ _ _ (none pool) (row-same _) (λ env. refl) h.dropped;
+    address = next_stays m m' pool pool 0 entry (reg + 3) 32 _ _ _ (none pool) (row-same _) (λ env. refl) h.address;
+    next_pc = next_stays m m' pool pool 0 entry (reg + 4) 32 _ _ _ (none pool) (row-same _) (λ env. refl) h.next_pc;
+  }

@@ -1,5 +1,5 @@
 -- What the first call made is found again in the second.
-use Rattle.std.proofs.Common.{◌≡◌, ◌∙◌, ℕ, Bool, ◌+◌, ◌*◌, ◌<◌, ◌≤◌, length, ap, sym, arith, inl, inr, None, Some}
+use Rattle.std.proofs.Common.{◌≡◌, ◌∙◌, ℕ, Bool, ◌+◌, ◌*◌, ◌<◌, ◌≤◌, length, ap, sym, subst, arith, inl, inr, None, Some}
 use Rattle.std.proofs.lemmas.Bool.{cases_lt}
 use Rattle.hw_module.specs.declared.rows.Owner.TheVariants.{Entry}
 use Rattle.hw_module.specs.declared.rows.RegRow.{RegRow}
@@ -45,3 +45,10 @@ module _ (takes : Service → Bool) (e : ℕ) (w : World) (depth reset_pc : ℕ)
         | inl below ↦ absurd (none begun.first below (first_owned least).1)
         | inr above ↦ omega arith
       ]
+
+  -- the registers of the command from the number on that the second call finds
+  pub command_at : (first count : ℕ) → count ≡ depth → 1 ≤ depth → (reg_at w.design.regs first).owner ≡ Entry e → ((k : ℕ) → k < first → (reg_at w.design.regs k).owner ≡ Entry e → ⊥)
+      → IsOpenCommand w.design e (first + 4 * count) reset_pc
+  command_at first count is least own none =
+      subst (λ (k : ℕ). IsOpenCommand w.design e (k + 4 * count) reset_pc) (sym (first_is least first own none))
+      (subst (λ (n : ℕ). IsOpenCommand w.design e (begun.first + 4 * n) reset_pc) (sym is) command_open)

@@ -11,7 +11,7 @@ use Rattle.plug_law.specs.Past.{last, accepted_since, count_since}
 use Rattle.isa_model.specs.Run.{FetchedFrom}
 use Rattle.plug_law.specs.Fetch.{FetchSignals, fetched_as, next_of, owes_pc, FetchAssumed}
 use Rattle.plug_fetch.proofs.Queue.{Item, Registers, rest_of, put_last, idle, kept, came, left, queue_after, pc_after, Offers, IsQueue}
-use Rattle.plug_fetch.proofs.Tests.{and_l, and_r, or_l, or_r, both, not_true, not_false, same, ltb_no, ltb_off, back, cond_true}
+use Rattle.plug_fetch.proofs.Truths.{and_l, and_r, or_l, or_r, both, not_true, not_false, same, ltb_no, ltb_off, back, cond_true}
 use Rattle.bus_law.proofs.Standing.{from_by_now, owed_since}
 use Rattle.plug_fetch.proofs.Counts.{none_accepted, accepted_more, none_counted, counted_more}
 use Rattle.plug_fetch.proofs.Wires.{idle_if, given_if, owed_if, busy_now, busy_next, issues, rests, not_owed, no_response}

@@ -10,7 +10,7 @@ use Rattle.plug_law.specs.Past.{last}
 use Rattle.isa_model.specs.Run.{FetchedFrom}
 use Rattle.plug_law.specs.Fetch.{FetchSignals, fetched_as, IsTrueItem, owes_pc, FetchAssumed}
 use Rattle.plug_fetch.proofs.Queue.{Item, Registers, rest_of, put_last, kept, came, queue_after, pc_after, Offers, IsQueue}
-use Rattle.plug_fetch.proofs.Tests.{and_l, and_r, both, not_true, eqb_refl}
+use Rattle.plug_fetch.proofs.Truths.{and_l, and_r, both, not_true, eqb_refl}
 use Rattle.plug_fetch.proofs.Wires.{idle_if, given_if}
 use Rattle.plug_fetch.proofs.Invariant.{IsGiven, Leads, AllTrue, Inv, Phase, inv, given_is, accepted_is}
 use Rattle.plug_fetch.proofs.Invariant.Phase.{Rests, Asks, Waits}

@@ -1,4 +1,5 @@
-pub mod Tests
+pub mod Alone
+pub mod Truths
 pub mod Wires
 pub mod Queue
 pub mod Counts
@@ -16,3 +17,6 @@ pub mod Drives
 pub mod Driven
 pub mod Begun
 pub mod Found
+pub mod Seen
+pub mod Asked
+pub mod Left

@@ -7,7 +7,7 @@ use Rattle.plug_law.specs.Fetch.{FetchSignals}
 use Rattle.plug_fetch.proofs.Queue.{Item, Registers, rest_of, put_last, came, Offers, IsQueue}
 use Rattle.plug_fetch.proofs.Queue as chain
 use Rattle.plug_fetch.proofs.Turns.{kept, moved, fills, held_after, Places, item_at, items, listed, now_at, IsPlaces}
-use Rattle.plug_fetch.proofs.Tests.{ltb_no, ltb_off, eqb_refl}
+use Rattle.plug_fetch.proofs.Truths.{ltb_no, ltb_off, eqb_refl}
 
 -- the items of k places from place i on
 cells : (ℕ → Item) → (k i : ℕ) → List Item

@@ -7,7 +7,7 @@ use Rattle.bus_law.specs.Protocol.{is_given}
 use Rattle.plug_law.specs.Past.{last}
 use Rattle.plug_law.specs.Fetch.{FetchSignals, FetchAssumed, is_taken_or_redirected}
 use Rattle.plug_fetch.proofs.Queue.{Item, Registers, rest_of, put_last, kept, came, Offers, IsQueue}
-use Rattle.plug_fetch.proofs.Tests.{or_l, or_r, both, not_true, ltb_no, at_most}
+use Rattle.plug_fetch.proofs.Truths.{or_l, or_r, both, not_true, ltb_no, at_most}
 use Rattle.plug_fetch.proofs.Wires.{busy_now, no_response, responds}
 use Rattle.plug_fetch.proofs.Invariant.{IsGiven, last_le, put_is, is_busy, is_idle, start, start_le, Inv, Phase, inv, given_is, apart}
 use Rattle.plug_fetch.proofs.Kept.{words, words_most}

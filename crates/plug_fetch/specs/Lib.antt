@@ -4,3 +4,4 @@ pub mod Builds
 pub mod Registers
 pub mod Begun
 pub mod Reads
+pub mod Late

@@ -1,16 +1,21 @@
 //! The part that fetches instructions: a queue of 1 to 4 places, and one command on the instruction bus at a time.
 //!
 //! The part is equations over numbers (`specs/Machine`), and the law says what they keep. The circuit (`circuit`) has these
-//! values, and each register is driven by its equation (`places`, `command`; `specs/Registers`).
+//! values, and each register is driven by its equation (`places`, `command`; `specs/Registers`). The plug-in (`Fetch`) makes the
+//! registers in its first call; in its second it drives them, the command on the instruction bus, and the inputs of Predict.
 #![tactic(auto)]
 
 mod circuit;
 mod command;
+mod cycle;
 mod drive;
+mod find;
 mod late;
 mod make;
 mod offer;
 mod places;
+mod plugin;
+mod predict;
 mod read;
 
 ghost use Rattle.std.specs.Prelude.{◌≡◌, ℕ, ◌≤◌, ◌%◌, Bool};
@@ -22,6 +27,11 @@ ghost use Rattle.plug_law.specs.Predict.{IsPredict};
 ghost use Rattle.plug_fetch.specs.Builds.{FetchPartsMeetLaws, FetchPartsReadAhead};
 ghost use Rattle.plug_fetch.specs.Machine.{Now};
 ghost use Rattle.plug_fetch.specs.Runs.{HasRuns, IsFetch, Shows};
+
+pub use plugin::Fetch;
+
+#[cfg(test)]
+mod tests;
 
 /// In each run of the equations, over any memory, the part keeps the law of Fetch with a latency of 8 + 4 w cycles on a bus that
 /// answers within w, and the law of its depth, with Predict and without, for each depth of at least 1. This does nothing:

@@ -1,4 +1,4 @@
--- Facts on tests.
+-- Facts on truth values.
 use Rattle.std.proofs.Common.{◌≡◌, ℕ, ltb, ◌<◌, ◌≤◌, Bool, true, false, cond, not, eqb, ◌&&◌, ◌||◌, refl, ap, ◌∙◌, sym, arith}
 use Rattle.std.proofs.lemmas.Bool.Decides.{nat_tests}
 use Rattle.std.proofs.lemmas.Bool.{ltb-true}
