@@ -4,9 +4,7 @@
 //! step.
 #![tactic(auto)]
 
-mod nets;
 mod plugin;
-mod spec;
 
 pub use plugin::Srl;
 

@@ -3,17 +3,18 @@ ghost use Rattle.stage_map.specs.declared.config.PlugEntry.{PlugEntry};
 ghost use Rattle.plug_kinds.specs.Kinds.{fault_in};
 ghost use Rattle.plug_srl.specs.Says.{srl_spec};
 
-use crate::nets::srl_net;
-use crate::spec::srl_spec;
+use hw_expr::Net;
+use hw_gates::{lit, slice};
 use hw_pool::Pool;
+use hw_words::shifted;
 use plug_api::{ParamFault, Plan, PlugSpec, Plugin};
 use plug_build::Builder;
 use plug_kinds::PlainState;
-use plug_kit::exec_inputs;
+use plug_kit::{ExecInputs, wire_net};
 use service_ports::Registry;
 use stage_map::PlugEntry;
 use std::alloc::{AllocError, Global};
-use unit_parts::computing_ports;
+use unit_parts::{Computes, build_unit, unit_spec};
 
 /// A unit for the row SRL. It takes no parameter, is done in the cycle in which it is asked, and never traps.
 #[derive(Debug, Drop)]
@@ -27,15 +28,30 @@ impl Srl {
     ///
     /// # Errors
     /// `AllocError` where memory was refused.
-    #[tactic(auto, using(crate::proofs::Says::is_spec))]
     pub fn new(alloc: Global) -> Result<Srl, AllocError>
         ensures taken { IfOk result (λ s. ⟦<Srl as Plugin>⟧.taken s ≡ None) }
         ensures spec { IfOk result (λ s. ⟦<Srl as Plugin>⟧.spec_now s ≡ srl_spec) }
         ensures fault { IfOk result (λ s. (e : PlugEntry) → ⟦<Srl as Plugin>⟧.first_fault s e ≡ fault_in [] e.params) }
         ensures then { IfOk result (λ s. (e : PlugEntry) → ⟦<Srl as Plugin>⟧.spec_taken s e ≡ srl_spec) }
     {
-        let state = PlainState::new(srl_spec(alloc)?);
+        let state = PlainState::new(unit_spec(alloc, "srl", &[33], 128)?);
         Ok(Srl { state })
+    }
+}
+
+impl Computes for Srl {
+    ghost use Rattle.plug_srl.specs.Says.{srl_value};
+
+    ghost value_of = { λ s. srl_value };
+
+    ghost nodes = { λ s. 39 };
+
+    fn value(&self, b: &Builder, pool: &mut Pool, w: ExecInputs) -> Net {
+        let left = wire_net(b, pool, w.a);
+        let right = wire_net(b, pool, w.b);
+        let amount = slice(pool, right, 4, 0);
+        let bit = lit(pool, 1, 0);
+        shifted(pool, amount, bit, left)
     }
 }
 
@@ -63,6 +79,7 @@ impl Plugin for Srl {
 
     ghost builds_for = { λ s e plan p. BuildsComputing srl_value p };
 
+    #[tactic(auto, using(unit_parts::proofs::Says::same_spec, unit_parts::proofs::Says::same_sound))]
     fn spec(&self) -> &PlugSpec {
         self.state.spec()
     }
@@ -72,11 +89,9 @@ impl Plugin for Srl {
     }
 
     fn early(&self, b: &mut Builder, pool: &mut Pool, plan: &Plan, reg: &mut Registry) {
-        let wires = exec_inputs(b);
-        let value = srl_net(b, pool, wires);
-        let ports = computing_ports(b, pool, wires, value);
-        reg.offer_exec(b.entry(), ports);
+        build_unit(self, b, pool, reg);
     }
 
+    #[tactic(auto, using(crate::proofs::Parts::parts_meet_laws, crate::proofs::Parts::parts_are_done))]
     fn late(&self, b: &mut Builder, pool: &mut Pool, plan: &Plan, reg: &Registry) {}
 }

@@ -1,5 +1,5 @@
 -- Parts of units that compute.
-use Rattle.std.proofs.Common.{◌≡◌, ◌∙◌, ℕ, suc, eqb, List, get_or, arith, ap, sym, subst}
+use Rattle.std.proofs.Common.{◌∙◌, ℕ, suc, eqb, List, get_or, arith, ap, sym, subst}
 use Rattle.hw_pool.specs.Meaning.{Env}
 use Rattle.hw_gates.specs.Places.{place, worth}
 use Rattle.isa_model.specs.Effects.{behind}
