@@ -1,13 +1,12 @@
 -- An accepted plan is one by which its plug-ins can build.
-use Rattle.std.proofs.Common.{◌≡◌, ◌∙◌, ℕ, zero, suc, ◌+◌, ◌*◌, ◌/◌, ◌<◌, ◌≤◌, List, [], ◌∷◌, length, get_or, map, take, refl, arith, ap, sym, subst, Bool, true, false, ◌||◌, eqb, Option, inl, inr, ◌⊎◌}
-use Rattle.std.specs.Prelude.{sum_by}
+use Rattle.std.proofs.Common.{◌≡◌, ◌∙◌, ℕ, zero, suc, ◌+◌, ◌*◌, ◌<◌, ◌≤◌, List, [], ◌∷◌, length, get_or, take, refl, arith, ap, sym, subst, true, false, eqb, Option, inl, inr}
 use Rattle.std.specs.List.{Contains}
-use Rattle.std.proofs.lemmas.Bool.{cases_Bool, cases_lt, or_cases, or_left, or_right, both_ways, eqb-true, eq-eqb, false_from_ne_true}
+use Rattle.std.proofs.lemmas.Bool.{cases_lt, or_cases, or_left, or_right, both_ways, eqb-true, eq-eqb, false_from_ne_true}
 use Rattle.std.proofs.lemmas.List.{get_or-map, length-map, get_or_default, length-take-le, get_or-take}
 use Rattle.service_reg.specs.declared.service.Service.{Service}
 use Rattle.service_reg.specs.declared.service.Service.TheVariants.{Fetch, Predict, Decoder, RegFile, Hazard, Exec, DataBus, System}
 use Rattle.service_reg.specs.declared.service.ServiceUse.{ServiceUse}
-use Rattle.service_reg.specs.Services.{number, no_use, use_at, Offers, Wants, IsBuildOrder, HasNoServiceFault}
+use Rattle.service_reg.specs.Services.{number, no_use, use_at, Offers, IsOffered, Wants, IsBuildOrder, HasNoServiceFault}
 use Rattle.stage_map.specs.declared.config.Config.{Config}
 use Rattle.stage_map.specs.declared.config.PlugEntry.{PlugEntry}
 use Rattle.plug_api.specs.declared.spec.ParamFault.{ParamFault}
@@ -18,10 +17,10 @@ use Rattle.plug_api.specs.declared.claims.OwnedClaim.{OwnedClaim}
 use Rattle.plug_api.specs.Spec.{is_among, no_spec}
 use Rattle.plug_api.specs.Picks.{AreConfigured, no_entry}
 use Rattle.plug_api.specs.Rules.{claims_of, cost_at, wanted_by}
-use Rattle.plug_api.specs.Accept.{use_of, uses_of, rows_of, IsAccepted, MayBe}
+use Rattle.plug_api.specs.Accept.{use_of, uses_of, IsAccepted}
 use Rattle.plug_api.specs.Calls.{IsLawful, half_cost, takes_of}
-use Rattle.plug_join.specs.Joined.{entry_at, box_of, rest_half, pipe_share, IsBuildable}
-use Rattle.plug_join.proofs.Sums.{front, sum_most, halves, front_list}
+use Rattle.plug_join.specs.Joined.{entry_at, is_core, box_of, rest_half, pipe_share, IsBuildable}
+use Rattle.plug_join.proofs.Sums.{sum_most, halves, front_list}
 
 one_number : (s t : Service) → number s ≡ number t → s ≡ t
 one_number Fetch Fetch e = refl
@@ -127,6 +126,25 @@ module _ (specs : List PlugSpec) (order : List ℕ) (is : IsBuildOrder (uses_of 
         let same : placed.0 ≡ j = ordered_once placed.0 j (omega arith) l (get_or_default order placed.0 0 (get_or order j 0) (omega arith) ∙ sym (get_or-take i order placed.0 (get_or order j 0) before) ∙ placed.2) in
         omega (arith, before, same))
 
+    -- what every core needs some entry offers
+    core_at : (s : Service) → is_core s ≡ true → (j : ℕ) × ((j < length order) × (is_among (get_or specs (get_or order j 0) no_spec).offers s ≡ true))
+    core_at s is = let o = offered_of s is in let k = ordered_all o.0 o.1.0 in (k.0, (k.1.0, ap (λ x. is_among (get_or specs x no_spec).offers s) k.1.1 ∙ o.1.1))
+      where
+        said : (t : Service) → IsOffered (uses_of specs) t → (x : ℕ) × ((x < length specs) × (is_among (get_or specs x no_spec).offers t ≡ true))
+        said t o =
+            let inside : o.0 < length specs = omega (arith, sizes, o.1.0) in
+            (o.0, (inside, lists (get_or specs o.0 no_spec).offers t (subst (λ (u : ServiceUse). Contains u.offers t) (use_is o.0 inside) o.1.1)))
+
+        offered_of : (t : Service) → is_core t ≡ true → (x : ℕ) × ((x < length specs) × (is_among (get_or specs x no_spec).offers t ≡ true))
+        offered_of Fetch h = said Fetch holds.core.fetch
+        offered_of Predict h = absurd (both_ways false refl h)
+        offered_of Decoder h = said Decoder holds.core.decoder
+        offered_of RegFile h = said RegFile holds.core.reg_file
+        offered_of Hazard h = said Hazard holds.core.hazard
+        offered_of Exec h = absurd (both_ways false refl h)
+        offered_of DataBus h = absurd (both_ways false refl h)
+        offered_of System h = absurd (both_ways false refl h)
+
     -- what an entry needs some entry offers
     pub met_at : (x : ℕ) (s : Service) → x < length specs → is_among (get_or specs x no_spec).needs s ≡ true
         → (j : ℕ) × ((j < length order) × (is_among (get_or specs (get_or order j 0) no_spec).offers s ≡ true))
@@ -150,6 +168,7 @@ module _ {B : Type 0} (spec : B → PlugSpec) (boxes : List B) (plan : Plan) (sp
   pub buildable : HasNoServiceFault (uses_of specs) → ((entry : ℕ) → entry < length plan.picks → get_or plan.picks entry 0 < length boxes)
       → ((d : B) (entry : ℕ) → entry < length plan.picks → IsLawful (spec (box_of boxes plan d entry)) plan entry) → IsBuildable spec boxes plan
   buildable holds picked lawful = record {
+    size = order.size ∙ sizes specs plan.order order ∙ size;
     inside = λ k l. let h = ordered_inside specs plan.order order k l in omega (arith, h, size);
     once = ordered_once specs plan.order order;
     all = λ entry l. ordered_all specs plan.order order entry (omega (arith, size));
@@ -164,6 +183,9 @@ module _ {B : Type 0} (spec : B → PlugSpec) (boxes : List B) (plan : Plan) (sp
     met = λ d i s l needs.
         let j = met_at specs plan.order order holds (entry_at plan i) s (ordered_inside specs plan.order order i l) (ap (λ (p : PlugSpec). is_among p.needs s) (sym (said_at d i l)) ∙ needs) in
         (j.0, (j.1.0, ap (λ (p : PlugSpec). is_among p.offers s) (said_at d j.0 j.1.0) ∙ j.1.1));
+    core = λ s is.
+        let j = core_at specs plan.order order holds s is in
+        (j.0, (j.1.0, λ d. ap (λ (p : PlugSpec). is_among p.offers s) (said_at d j.0 j.1.0) ∙ j.1.1));
   }
 
   -- what all may make in both calls, and the pipeline's share, is what is wanted

@@ -1,6 +1,7 @@
 -- Before the first box builds.
-use Rattle.std.proofs.Common.{◌≡◌, ◌∙◌, ℕ, zero, suc, ◌+◌, ◌<◌, ◌≤◌, List, [], ◌∷◌, length, get_or, refl, arith, ap, sym, subst, Option, None, Some}
-use Rattle.std.specs.Prelude.{replicate}
+use Rattle.std.proofs.Common.{◌≡◌, ℕ, zero, suc, ◌+◌, ◌≤◌, List, [], length, get_or, refl, arith, ap, sym, subst, Option, None}
+use Rattle.std.specs.Prelude.{false, replicate}
+use Rattle.std.proofs.lemmas.Bool.{both_ways}
 use Rattle.hw_pool.specs.Nodes.{PoolValue}
 use Rattle.hw_pool.proofs.Frames.{adds_nothing}
 use Rattle.hw_expr.specs.declared.net.Net.{Net}
@@ -12,8 +13,9 @@ use Rattle.service_reg.specs.declared.service.Service.TheVariants.{Fetch, Predic
 use Rattle.service_ports.specs.Registry.{RegistryValue, Offered, single, offer_of}
 use Rattle.plug_api.specs.declared.spec.PlugSpec.{PlugSpec}
 use Rattle.plug_api.specs.declared.spec.Plan.{Plan}
-use Rattle.plug_build.specs.World.{World}
-use Rattle.plug_build.specs.Fits.{WorldFits}
+use Rattle.plug_build.specs.Fits.{OfferKey, ports_at}
+use Rattle.plug_build.specs.Fits.OfferKey.{The, ExecAt}
+use Rattle.plug_part.specs.Owned.{is_input_of, ports_of}
 use Rattle.plug_part.specs.Part.{Part}
 use Rattle.service_ports.proofs.Offers.{none_some}
 use Rattle.plug_join.specs.Joined.{rest_half, EarlySoFar, pipe_share}
@@ -31,6 +33,11 @@ no-single room Hazard = refl
 no-single room Exec = refl
 no-single room DataBus = refl
 no-single room System = refl
+
+no-input : (room : ℕ) (x : OfferKey) (k : ℕ) → is_input_of (ports_at (empty-registry room) x) k ≡ false
+unfolding empty-registry
+no-input room (The s) k = ap (λ (o : Option Offered). is_input_of (ports_of o) k) (no-single room s)
+no-input room (ExecAt i) k = refl
 
 no-offer : (room e : ℕ) (s : Service) → offer_of (empty-registry room) e s ≡ None
 unfolding empty-registry
@@ -64,6 +71,8 @@ module _ {B : Type 0} (spec : B → PlugSpec) (boxes : List B) (plan : Plan) (te
       offers = record {
         singles = λ s o e. absurd (none_some _ o (no-single room s) e);
         execs = λ k o l e. absurd (omega arith);
+        once = λ i j o q li ei lj ej same. absurd (omega arith);
+        apart = λ x y k is other. absurd (both_ways (is_input_of (ports_at (empty-registry room) x) k) (no-input room x k) is);
       };
     };
     begun = λ d k l. absurd (omega arith);
@@ -75,7 +84,10 @@ module _ {B : Type 0} (spec : B → PlugSpec) (boxes : List B) (plan : Plan) (te
       arrays = λ j own. pipe-other _ own;
       offers = λ s. no-offer room (get_or plan.order k 0) s;
     };
-    singles = λ s o e. absurd (none_some _ o (no-single room s) e);
+    offers = record {
+      singles = λ s o e. absurd (none_some _ o (no-single room s) e);
+      execs = λ i d l. absurd (omega arith);
+    };
     outs = λ p net e. absurd (none_some _ net (none-at 30 p) e);
     room = λ x. let had = wanted x in record { room = omega arith; spare = omega arith };
     execs = omega arith;

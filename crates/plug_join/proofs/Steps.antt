@@ -1,17 +1,17 @@
 -- One box after the other.
-use Rattle.std.proofs.Common.{◌≡◌, ◌∙◌, ℕ, ◌+◌, ◌<◌, ◌≤◌, List, [], length, get_or, drop, refl, arith, ap, sym, subst, Bool, true, false, ◌||◌, ◌&&◌, is_some, Option, None, Some, inl, inr, ◌⊎◌}
-use Rattle.std.specs.Prelude.{sum_by}
+use Rattle.std.proofs.Common.{◌≡◌, ◌∙◌, ℕ, ◌+◌, ◌<◌, ◌≤◌, List, length, get_or, refl, arith, ap, sym, subst, Bool, true, false, ◌||◌, ◌&&◌, is_some, Option, None, Some, inl, inr, ◌⊎◌}
+use Rattle.std.specs.Prelude.{All}
 use Rattle.hw_pool.proofs.Frames.{adds_nothing}
-use Rattle.std.proofs.lemmas.Bool.{or_left, or_right, cases_lt, cases_Bool, both_ways, or_cases, and_parts}
+use Rattle.std.proofs.lemmas.Bool.{or_left, or_right, cases_lt, cases_eq, cases_Bool, both_ways, or_cases, and_parts}
+use Rattle.std.proofs.lemmas.List.Elements.{All-append}
 use Rattle.std.proofs.lemmas.List.Sums.{sum_by-drop_more}
 use Rattle.hw_pool.specs.Nodes.{PoolValue}
-use Rattle.hw_pool.specs.Frame.{Adds}
 use Rattle.hw_pool.proofs.Frames.{adds_then}
 use Rattle.hw_expr.specs.declared.net.Net.{Net}
 use Rattle.hw_module.specs.declared.rows.Owner.TheVariants.{Entry}
 use Rattle.hw_module.specs.declared.rows.WireRow.{WireRow}
 use Rattle.hw_module.specs.declared.rows.Owner.{Owner}
-use Rattle.hw_module.specs.Rows.{ModuleValue, wire_at, reg_at, array_at, out_at}
+use Rattle.hw_module.specs.Rows.{ModuleValue, wire_at, out_at}
 use Rattle.service_reg.specs.declared.service.Service.{Service}
 use Rattle.service_reg.specs.declared.service.Service.TheVariants.{Fetch, Predict, Decoder, RegFile, Hazard, Exec, DataBus, System}
 use Rattle.service_ports.specs.Ports.{Ports}
@@ -24,7 +24,7 @@ use Rattle.hw_module.specs.Rights.{Rights, Makes}
 use Rattle.plug_part.specs.Owned.{is_input_of, is_own_input, is_predict_input, is_out_of, is_fetch_out, is_bus_out, offers, ports_of}
 use Rattle.plug_build.specs.World.{World, Builds, early_rights, late_rights, part_in}
 use Rattle.plug_build.specs.Fits.{WorldFits}
-use Rattle.plug_build.specs.Done.{IsDone, OwnsNothing, AreOpen}
+use Rattle.plug_build.specs.Done.{IsDone, AreOpen}
 use Rattle.plug_part.specs.Part.{Part}
 use Rattle.plug_build.proofs.Offers.{offer_kept, own_input_is, predict_input_is}
 use Rattle.service_ports.proofs.Offers.{none_some}
@@ -34,7 +34,7 @@ use Rattle.plug_build.specs.Frame.PredictStays.{Stays, Comes}
 use Rattle.plug_build.proofs.Leaves.{entry_eq, early_leaves, late_leaves, nothing_kept, single_offers, disjoint_outs, by_self}
 use Rattle.plug_part.specs.Meets.{MeetsLaws}
 use Rattle.plug_api.specs.Calls.{OffersItsOwn, IsThere, AreThere, AreUnoffered, AreOutsOpen, IsPredictOpen, half_cost, takes_of, terms_of}
-use Rattle.plug_join.specs.Joined.{entry_at, box_of, rest_half, IsBuildable, HasRoom, AreOwned, EarlySoFar, LateSoFar, IsJoined, IsLeft}
+use Rattle.plug_join.specs.Joined.{entry_at, box_of, rest_half, IsBuildable, AreOwned, AreOffersOf, EarlySoFar, LateSoFar}
 
 not-offered : (r : RegistryValue) (e : ℕ) (s : Service) → single r s ≡ None → (s ≡ Exec → ⊥) → offers r e s ≡ false
 not-offered r e Fetch h ne = ap (λ (o : Option Offered). is_some (own_single e o)) h
@@ -46,7 +46,7 @@ not-offered r e Exec h ne = absurd (ne refl)
 not-offered r e DataBus h ne = ap (λ (o : Option Offered). is_some (own_single e o)) h
 not-offered r e System h ne = ap (λ (o : Option Offered). is_some (own_single e o)) h
 
-there : (r : RegistryValue) (e : ℕ) (s : Service) → offers r e s ≡ true → IsThere r s
+pub there : (r : RegistryValue) (e : ℕ) (s : Service) → offers r e s ≡ true → IsThere r s
 there r e Fetch h = λ none. both_ways _ (not-offered r e Fetch none (λ q. cc)) h
 there r e Predict h = λ none. both_ways _ (not-offered r e Predict none (λ q. cc)) h
 there r e Decoder h = λ none. both_ways _ (not-offered r e Decoder none (λ q. cc)) h
@@ -55,6 +55,13 @@ there r e Hazard h = λ none. both_ways _ (not-offered r e Hazard none (λ q. cc
 there r e Exec h = λ none. both_ways _ (ap (λ (os : List ExecOffer). is_some (exec_of e os)) none) h
 there r e DataBus h = λ none. both_ways _ (not-offered r e DataBus none (λ q. cc)) h
 there r e System h = λ none. both_ways _ (not-offered r e System none (λ q. cc)) h
+
+pub each_more : {X : Type 0} (P Q : X → Type 0) → ((x : X) → P x → Q x) → (xs : List X) → All P xs → All Q xs
+each_more P Q f xs h i d l = f (get_or xs i d) (h i d l)
+
+none_and : (a b : Bool) → b ≡ false → (a && b) ≡ false
+none_and true b e = e
+none_and false b e = refl
 
 -- two that drive one output of the core offer one service
 same-service : (fa ba fb bb : Bool) (p : ℕ) → ((fa && is_fetch_out p) || (ba && is_bus_out p)) ≡ true → ((fb && is_fetch_out p) || (bb && is_bus_out p)) ≡ true → ((fa ≡ true) × (fb ≡ true)) ⊎ ((ba ≡ true) × (bb ≡ true))
@@ -146,7 +153,7 @@ module _ {B : Type 0} (spec : B → PlugSpec) (boxes : List B) (plan : Plan) whe
           go : (o : Option Offered) → single w.reg s ≡ o → single w.reg s ≡ None
           go None e = e
           go (Some o) e =
-              let k = h.singles s o e in
+              let k = h.offers.singles s o e in
               let by = k.1.1 in
               let mine = single_offers w.reg (entry_at plan k.0) s o.ports (e ∙ (λ i. Some (record { by = by i; ports = o.ports }))) in
               let same : k.0 ≡ count = ok.apart d k.0 count s (omega (arith, k.1.0)) l (sym (h.offered d k.0 k.1.0 s) ∙ mine) is (λ q. none_some None o refl (subst (λ (t : Service). single w.reg t ≡ Some o) q e)) in
@@ -222,9 +229,15 @@ module _ {B : Type 0} (spec : B → PlugSpec) (boxes : List B) (plan : Plan) whe
             go : (was : Option Offered) → single w.reg s ≡ was → (k : ℕ) × ((k < count + 1) × (o.by ≡ entry_at plan k))
             go None none = (count, (omega arith, by.added s o none e))
             go (Some o') is =
-                let k = h.singles s o' is in
+                let k = h.offers.singles s o' is in
                 let same : o' ≡ o = some_eq (sym (by.kept s o' is) ∙ e) in
                 (k.0, (omega (arith, k.1.0), ap (λ (x : Offered). x.by) (sym same) ∙ k.1.1))
+
+        execs-more : All (λ (o : ExecOffer). (k : ℕ) × ((k < count + 1) × (o.by ≡ entry_at plan k))) w'.reg.execs
+        execs-more = subst (All (λ (o : ExecOffer). (k : ℕ) × ((k < count + 1) × (o.by ≡ entry_at plan k)))) (sym by.execs)
+            (All-append (λ (o : ExecOffer). (k : ℕ) × ((k < count + 1) × (o.by ≡ entry_at plan k))) w.reg.execs by.more
+            (each_more (λ (o : ExecOffer). (k : ℕ) × ((k < count) × (o.by ≡ entry_at plan k))) (λ (o : ExecOffer). (k : ℕ) × ((k < count + 1) × (o.by ≡ entry_at plan k))) (λ o f. (f.0, (omega (arith, f.1.0), f.1.1))) w.reg.execs h.offers.execs)
+            (each_more (λ (o : ExecOffer). o.by ≡ entry_at plan count) (λ (o : ExecOffer). (k : ℕ) × ((k < count + 1) × (o.by ≡ entry_at plan k))) (λ o own. (count, (omega arith, own))) by.more by.execs_by))
 
         outs-more : (p : ℕ) (net : Net) → out_at w'.design.outs p ≡ Some net → (k : ℕ) × ((k < count + 1) × (is_out_of w'.reg (entry_at plan k) p ≡ true))
         outs-more p net e = elim (cases_Bool (is_out_of w'.reg (entry_at plan count) p)) [
@@ -242,7 +255,7 @@ module _ {B : Type 0} (spec : B → PlugSpec) (boxes : List B) (plan : Plan) whe
           offered = offered-more;
           bare = bare-more;
           fresh = λ k le lt. nothing_kept (entry_at plan k) (entry_at plan count) most (early_rights w'.reg (entry_at plan count)) w w' (λ q. entries-apart count k (omega arith) lt (sym q)) b by (h.fresh k (omega arith) lt);
-          singles = singles-more;
+          offers = record { singles = singles-more; execs = execs-more };
           outs = outs-more;
           room = λ d.
               let more = rest_more d count l in
@@ -292,6 +305,34 @@ module _ {B : Type 0} (spec : B → PlugSpec) (boxes : List B) (plan : Plan) whe
             go (Stays q row) = ap (λ (r : WireRow). r.driver) (row was).1 ∙ h.predict d k (omega arith) lt off j was
             go (Comes miss bare) = bare
 
+        bare-late : (k j : ℕ) → k < length plan.order → is_own_input w'.reg (entry_at plan k) j ≡ true → is_predict_input w'.reg j ≡ false → (wire_at w'.design.wires j).driver ≡ None
+        bare-late k j lt is other = ap (λ (r : WireRow). r.driver) stays ∙ h.bare k j lt was before
+          where
+            was : is_own_input w.reg (entry_at plan k) j ≡ true
+            was = ap (λ (r : RegistryValue). is_own_input r (entry_at plan k) j) (sym same) ∙ is
+
+            before : is_predict_input w.reg j ≡ false
+            before = ap (λ (r : RegistryValue). is_predict_input r j) (sym same) ∙ other
+
+            free : (offers w.reg (entry_at plan count) Fetch && is_predict_input w.reg j) ≡ false
+            free = none_and (offers w.reg (entry_at plan count) Fetch) (is_predict_input w.reg j) before
+
+            stays : wire_at w'.design.wires j ≡ wire_at w.design.wires j
+            stays =
+                let row = own_input_is w.design w.pool w.reg h.fits.offers (entry_at plan k) j was in
+                elim (cases_eq (entry_at plan k) (entry_at plan count)) [
+                  | inl mine ↦ b.makes.locked j row.0 (subst (λ e. is_own_input w.reg e j ≡ true) mine was) free
+                  | inr others ↦ b.makes.wires j row.0 (λ q. others (entry_eq _ _ (sym row.1 ∙ q))) free
+                ]
+
+        outs-late : (p : ℕ) (net : Net) → out_at w'.design.outs p ≡ Some net → (k : ℕ) × ((k < length plan.order) × (is_out_of w'.reg (entry_at plan k) p ≡ true))
+        outs-late p net is = elim (cases_Bool (is_out_of w.reg (entry_at plan count) p)) [
+          | inl mine ↦ (count, (l, ap (λ (r : RegistryValue). is_out_of r (entry_at plan count) p) same ∙ mine))
+          | inr other ↦
+              let k = h.outs p net (sym (b.makes.outs p other) ∙ is) in
+              (k.0, (k.1.0, ap (λ (r : RegistryValue). is_out_of r (entry_at plan k.0) p) same ∙ k.1.1))
+        ]
+
         pub late_step : LateSoFar spec test test' boxes plan first own (count + 1) w'
         late_step = record {
           fits = fits;
@@ -310,6 +351,9 @@ module _ {B : Type 0} (spec : B → PlugSpec) (boxes : List B) (plan : Plan) whe
             | inr here ↦ let e : count ≡ k = omega arith in subst (λ (j : ℕ). IsDone (entry_at plan j) w') e done
           ];
           owners = owned_more plan count (length plan.order) w.design w'.design (late_rights w.reg (entry_at plan count)) b.things b.makes l h.owners;
+          offers = subst (AreOffersOf plan (length plan.order)) (sym same) h.offers;
+          bare = bare-late;
+          outs = outs-late;
           predict = predict-late;
           room = λ d.
               let more = rest_more d count l in
@@ -333,6 +377,9 @@ module _ {B : Type 0} (spec : B → PlugSpec) (boxes : List B) (plan : Plan) whe
     laws = λ d k lt. absurd (omega arith);
     done = λ k lt. absurd (omega arith);
     owners = h.owners;
+    offers = h.offers;
+    bare = λ k j l is other. h.bare k l j is;
+    outs = h.outs;
     predict = λ d k le lt off j is. go j (single w.reg Predict) refl is;
     room = λ d. let had = h.room d in record { room = omega (arith, had.room); spare = omega (arith, had.spare) };
     nodes = 0;
@@ -342,39 +389,8 @@ module _ {B : Type 0} (spec : B → PlugSpec) (boxes : List B) (plan : Plan) whe
       go : (j : ℕ) (o : Option Offered) → single w.reg Predict ≡ o → is_input_of (ports_of (single w.reg Predict)) j ≡ true → (wire_at w.design.wires j).driver ≡ None
       go j None e is = absurd (both_ways _ (ap (λ (q : Option Offered). is_input_of (ports_of q) j) e) is)
       go j (Some o) e is =
-          let k = h.singles Predict o e in
+          let k = h.offers.singles Predict o e in
           let by = k.1.1 in
           let mine : own_single (entry_at plan k.0) (single w.reg Predict) ≡ Some o.ports = by_self (entry_at plan k.0) o.ports (single w.reg Predict) (e ∙ (λ i. Some (record { by = by i; ports = o.ports }))) in
           let among : is_input_of (Some o.ports) j ≡ true = ap (λ (q : Option Offered). is_input_of (ports_of q) j) (sym e) ∙ is in
           h.bare k.0 k.1.0 j (or_right (is_input_of (offer_of w.reg (entry_at plan k.0) Fetch) j) _ (or_left _ _ (ap (λ (q : Option Ports). is_input_of q j) mine ∙ among)))
-
-  -- when the last is done, each entry is
-  pub all_joined : (ok : IsBuildable spec boxes plan) (test test' : B → Plan → Part → Type 0) (first : PoolValue) (own count : ℕ) (w : World) → length plan.order ≤ count
-      → LateSoFar spec test test' boxes plan first own count w → IsJoined spec test' boxes plan w
-  all_joined ok test test' first own count w over h = record {
-    parts = λ d entry inside.
-        let k = ok.all entry inside in
-        subst (λ (e : ℕ). test' (box_of boxes plan d e) plan (part_in (takes_of (spec (box_of boxes plan d e))) e w)) k.1.1 (h.builds d k.0 (omega (arith, k.1.0)));
-    laws = λ d entry inside.
-        let k = ok.all entry inside in
-        let below : k.0 < count = omega (arith, k.1.0) in
-        subst (λ (e : ℕ). MeetsLaws (terms_of (spec (box_of boxes plan d e)) plan) (part_in (takes_of (spec (box_of boxes plan d e))) e w)) k.1.1 (h.laws d k.0 below _ (h.builds d k.0 below));
-  }
-
-  -- and what is left is the pipeline's
-  pub all_left : (test test' : B → Plan → Part → Type 0) (first : PoolValue) (own : ℕ) (w : World) → LateSoFar spec test test' boxes plan first own (length plan.order) w → IsLeft plan w
-  all_left test test' first own w h = record {
-    wires = λ k l none.
-        let o = h.owners.wires k l in (
-          o.0,
-          (
-            o.1.0,
-            elim (cases_Bool (is_own_input w.reg (entry_at plan o.0) k)) [
-              | inl is ↦ is
-              | inr free ↦ absurd ((h.done o.0 o.1.0).wires k l o.1.1 free none)
-            ],
-          ),
-        );
-    regs = λ k l none. let o = h.owners.regs k l in (h.done o.0 o.1.0).regs k l o.1.1 none;
-    arrays = λ k l none. let o = h.owners.arrays k l in (h.done o.0 o.1.0).arrays k l o.1.1 none;
-  }

@@ -57,3 +57,15 @@ halves (suc n) g c each =
 pub front_list : {X : Type 0} (xs : List X) (f : X → ℕ) (d : X) → front (length xs) (λ i. f (get_or xs i d)) ≡ sum_by f xs
 front_list [] f d = refl
 front_list (x ∷ xs) f d = ap (λ n. f x + n) (front_list xs f d) ∙ sym (sum_by-cons f x xs)
+
+-- different numbers below n are at most n
+ones : (xs : List ℕ) → sum_by (λ x. 1) xs ≡ length xs
+ones [] = refl
+ones (x ∷ xs) = sum_by-cons (λ x. 1) x xs ∙ ap (λ n. 1 + n) (ones xs) ∙ omega arith
+
+front_ones : (n : ℕ) → front n (λ i. 1) ≡ n
+front_ones zero = refl
+front_ones (suc n) = let rest = front_ones n in omega (arith, rest)
+
+pub few_below : (xs : List ℕ) (n : ℕ) → NoneTwice xs → ((k : ℕ) → k < length xs → get_or xs k 0 < n) → length xs ≤ n
+few_below xs n once inside = let most = sum_most xs n (λ x. 1) once inside in omega (arith, most, ones xs, front_ones n)

@@ -7,4 +7,4 @@ mod late;
 mod law;
 
 pub use boxes::{JoinRefusal, Joined, build_boxes};
-pub use law::accepted_plans_build;
+pub use law::{accepted_plans_build, joined_parts_stay};

@@ -1,5 +1,4 @@
-use Rattle.std.proofs.Common.{◌≡◌, ◌∙◌, ℕ, ◌<◌, ◌≤◌, length, refl, arith, sym, subst}
-use Rattle.plug_join.specs.Joined.{EarlySoFar}
+use Rattle.std.proofs.Common.{◌≡◌, ◌∙◌, ◌<◌, ◌≤◌, length, arith}
 use Rattle.plug_join.proofs.Steps.{unoffered_here, outs_here, room_here, spare_here, early_step}
 use Rattle.plug_join.proofs.early.early_all.Goals as goal
 

@@ -1,5 +1,6 @@
-use Rattle.std.proofs.Common.{◌≡◌, ◌∙◌, ℕ, ◌<◌, ◌≤◌, length, refl, arith, sym, subst}
-use Rattle.plug_join.proofs.Steps.{needs_here, late_room, late_spare, late_step, late_first, all_joined, all_left}
+use Rattle.std.proofs.Common.{◌≡◌, ◌∙◌, ◌<◌, ◌≤◌, length, refl, arith}
+use Rattle.plug_join.proofs.Steps.{needs_here, late_room, late_spare, late_step, late_first}
+use Rattle.plug_join.proofs.Ends.{all_joined, all_left}
 use Rattle.plug_join.proofs.late.late_all.Goals as goal
 
 pub loop-entry-init : goal.loop-entry-init
@@ -56,4 +57,4 @@ returns g c =
     let most : c.loop-entry.entry-index ≤ length c.args.plan.now.order = rw is at c.loop-entry.auto.entry-index-end in
     let e : c.loop-entry.entry-index ≡ length c.args.plan.now.order = omega arith in
     let whole = rw e at c.loop-entry.invariant in
-    record { done = whole; left = all_left _ _ _ _ _ _ _ _ whole; joined = all_joined _ _ _ c.requires.plan _ _ _ _ _ _ over c.loop-entry.invariant }
+    record { done = whole; left = all_left _ _ _ c.requires.plan _ _ _ _ whole; joined = all_joined _ _ _ c.requires.plan _ _ _ _ _ _ over c.loop-entry.invariant }

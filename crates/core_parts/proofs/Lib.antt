@@ -1,0 +1,4 @@
+pub mod Offered
+pub mod Facts
+pub mod Joins
+pub mod Plans
