@@ -5,3 +5,4 @@ pub mod Ports
 pub mod Texts
 pub mod Kept
 pub mod Examples
+pub mod Traces

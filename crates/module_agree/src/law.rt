@@ -11,11 +11,12 @@ ghost use Rattle.hw_module.specs.Rows.{IsModule, ModuleValue};
 ghost use Rattle.verilog_mean.specs.CorePorts.{HasCorePorts};
 ghost use Rattle.verilog_mean.specs.Cycle.{State};
 ghost use Rattle.verilog_mean.specs.Plain.{Plain};
-ghost use Rattle.verilog_mean.specs.Run.{AllZero, Inputs, IsStart, trace_of};
-ghost use Rattle.module_netlist.specs.Means.{Means, ins_by};
+ghost use Rattle.verilog_mean.specs.Run.{AllZero, Inputs, IsInput, IsStart, trace_of};
+ghost use Rattle.module_netlist.specs.Means.{Means, held_by, ins_by};
 ghost use Rattle.module_netlist.specs.Names.{port_name};
 ghost use Rattle.module_agree.specs.Agree.{CyclesAgree, SameContents, SameTrees};
 ghost use Rattle.module_agree.specs.Keeps.{KeepsTrees};
+ghost use Rattle.module_agree.specs.Traces.{ShowsModule, numbered};
 
 /// The law of agreeing modules: from the same contents, on the same inputs, both hold the same in each register and
 /// array and give the same on each output, in each cycle. Only the first has to be checked. This does nothing: its
@@ -63,6 +64,15 @@ pub fn agreeing_texts_are_one()
         → (c : State) → IsStart t.items c → (ins : Inputs) → ((k : ℕ) → AreInputs (ins_by (ins k)))
         → HasCorePorts t → HasCorePorts t'
         → (k p : ℕ) → p < 30 → trace_of t c ins k (port_name p) ≡ trace_of t' c ins k (port_name p) }
+{}
+
+/// The law of traces: a text with the ports of a core shows on them what the module that it means has there, from any contents on
+/// any inputs, in each cycle. The inputs that a run of the text may have are within the widths of the ports. This does
+/// nothing: its contract is the law.
+pub fn texts_show_modules()
+    ensures shows { (m : ModuleValue) (pool : PoolValue) → DriversFit m pool → (t : Plain) → Means m pool.nodes t → HasCorePorts t
+        → (c : State) (ins : Inputs) → ShowsModule m pool.nodes (held_by m c) (numbered ins) (trace_of t c ins) }
+    ensures inputs { (t : Plain) → HasCorePorts t → (ins : Inputs) → IsInput t ins → (k : ℕ) → AreInputs (numbered ins k) }
 {}
 
 /// The law of growth: while nodes are added to the pool, and things and drivers to the module, each row stays at its
