@@ -1,0 +1,11 @@
+pub mod Bears
+pub mod Known
+pub mod DrivenBy
+pub mod Made
+pub mod UnitOuts
+pub mod Late
+pub mod AllNets
+pub mod Undriven
+pub mod Rest
+pub mod RestAt
+pub mod Ready
