@@ -1,0 +1,24 @@
+use Rattle.std.proofs.Common.{refl, sym, subst}
+use Rattle.pipe_drive.proofs.Left.{pipe_leaves}
+use Rattle.pipe_join.specs.Pipelined.{AreCommits}
+use Rattle.pipe_join.proofs.Phase.{pipelined, ready, shape_fits}
+use Rattle.pipe_join.proofs.whole.join.Goals as goal
+
+pub build_pipe-requires-clause-ready : goal.build_pipe-requires-clause-ready
+build_pipe-requires-clause-ready g c = ready _ _ _ _ c.in-Ok-build_boxes.ensures.left c.in-Ok-build_boxes.ensures.joined.built
+
+pub build_pipe-requires-clause-least : goal.build_pipe-requires-clause-least
+build_pipe-requires-clause-least g c = (shape_fits _ _ _ c.requires.plan).at_least
+
+pub build_pipe-requires-clause-most : goal.build_pipe-requires-clause-most
+build_pipe-requires-clause-most g c = (shape_fits _ _ _ c.requires.plan).at_most
+
+pub returns-clause-pipelined : goal.returns-clause-pipelined
+returns-clause-pipelined g c =
+    let builds = c.build_pipe.ensures.builds in
+    let are = subst (AreCommits _ _ _ _) (sym c.deref.ensures.value) c.in-Ok.ensures.are in (
+      _,
+      pipelined _ _ _ _ _ _ _ _ c.in-Ok-build_boxes.ensures.joined c.in-Ok-build_boxes.ensures.fits builds refl
+          (λ takes entry. pipe_leaves _ c.in-Ok-build_boxes.ensures.fits _ _ refl builds.makes takes entry)
+          c.build_pipe.ensures.fits c.deref.result.now are _ _ c.build_pipe.ensures.pipeline,
+    )

@@ -1,0 +1,8 @@
+//! Joins the plug-ins of a plan and the pipeline to one module.
+#![tactic(auto)]
+
+mod commits;
+mod count;
+mod whole;
+
+pub use whole::join;
