@@ -1,7 +1,6 @@
 -- The ends of a call, from those of its parts, and what was pulled in all.
-use Rattle.std.proofs.Common.{◌≡◌, ◌≤◌, ◌⊎◌, inl, inr, ℕ, List, [], ◌∷◌, Option, Some, Ok, refl, ◌∙◌, subst, arith}
-use Rattle.std.proofs.lemmas.Bool.{cases_lt}
-use Rattle.core_host.specs.Outside.{Files, Appends, IsCut, IsMissing}
+use Rattle.std.proofs.Common.{◌≡◌, ◌≤◌, inl, inr, ℕ, List, [], ◌∷◌, Option, Some, Ok, refl, sym, ◌∙◌, subst, codes}
+use Rattle.core_host.specs.Outside.{Files, Rose, Appends, IsCut, IsMissing}
 use Rattle.bus_law.specs.Memory.{Memory, IsMemory}
 use Rattle.stage_map.specs.declared.config.MemShape.{MemShape}
 use Rattle.stage_map.specs.declared.config.Config.{Config}
@@ -17,83 +16,151 @@ use Rattle.core_tool.specs.declared.ends.CallEnd.{CallEnd}
 use Rattle.core_tool.specs.declared.ends.CallEnd.TheVariants.{Written, Accepted, BadWords, Refused, RulesRefused, BadFile, BadImage, OutOfMemory, Unwritten, CyclesEnded, Stopped}
 use Rattle.core_tool.specs.declared.options.Options.{Options}
 use Rattle.core_tool.specs.Reading.{said_for, takes_of}
-use Rattle.core_tool.specs.Acceptance.{Acceptance}
-use Rattle.core_tool.specs.Words.{Form, Run}
-use Rattle.core_tool.specs.Files.{Gives, IsGiven, Pulled, PulledUnlessFault, config_name, image_name}
-use Rattle.core_tool.specs.CoreRun.{IsCoreTree}
-use Rattle.core_tool.specs.Parts.{ForBytes, IsConfigEnd, IsImageEnd, IsLoaded, IsSimulated, PulledOne}
-use Rattle.core_tool.specs.Call.{IsEnd, IsRunText}
-use Rattle.core_tool.proofs.Calls.{Rose-earlier, PulledUnlessFault-later}
+use Rattle.core_tool.specs.Words.{Form, Gen, Run, Rules}
+use Rattle.core_tool.specs.Call.{Boxes, Call, Outside, Seen}
+use Rattle.core_tool.specs.Boxes.{AreUntouched, HavePassed, HaveTakenAll, TriesRules}
+use Rattle.core_tool.specs.Files.{Gives, Passes, config_name, image_name}
+use Rattle.core_tool.specs.CoreRun.{IsCoreText, IsCoreTree}
+use Rattle.core_tool.specs.Texts.{IsRunText, IsTextFor}
+use Rattle.core_tool.specs.Parts.{ForBytes, IsConfigEnd, IsImageEnd, IsJudged, IsLoaded, IsSimulated}
+use Rattle.core_tool.specs.Ends.{IsEnd}
+use Rattle.core_tool.proofs.Calls.{Rose-earlier}
 use Rattle.core_tool.proofs.Runs.{core_run}
 
-pub gives : (form : Option Form) (name : List ℕ) (files : Option Files) (c : Config) → config_name form ≡ Some name → IsConfig c
-    → ForBytes name files (λ bytes. said_for form bytes ≡ Ok c) → Gives form files c
-gives form name files c named is h = (is, record { name = name; is_name = named; bytes = h.0; file = h.1; fact = h.2 })
+-- ---- the configuration
 
--- ---- the ends
+pub gives : {B : Type 0} (call : Call B) (name : List ℕ) (c : Config) → config_name call.form ≡ Some name → IsConfig c
+    → ForBytes name call.files (λ bytes. said_for call.form bytes ≡ Ok c) → Gives call c
+gives call name c named is h = record { is_config = is; said = record { name = name; is_name = named; bytes = h.0; file = h.1; fact = h.2 } }
 
-pub config_ends : (rules : Acceptance) (form : Option Form) (name : List ℕ) (files : Option Files) (reads reads' writes writes' : ℕ) (main main' : Option (List ℕ)) (end : CallEnd)
-    → config_name form ≡ Some name → main' ≡ main → IsConfigEnd (takes_of form) name files reads reads' end → IsEnd rules form files reads reads' writes writes' main main' end
-config_ends rules form name files reads reads' writes writes' main main' (Refused refusal) named same h = record {
-  text = [];
-  cause = record { name = name; is_name = named; bytes = h.0; file = h.1; fact = h.2 };
-  on_main = same;
-  unwritten = λ e. cc;
-}
-config_ends rules form name files reads reads' writes writes' main main' BadFile named same (inl rose) = record {
-  text = [];
-  cause = (name, named, inl rose);
-  on_main = same;
-  unwritten = λ e. cc;
-}
-config_ends rules form name files reads reads' writes writes' main main' BadFile named same (inr missing) = record {
-  text = [];
-  cause = (name, named, inr (inl (name, named, missing)));
-  on_main = same;
-  unwritten = λ e. cc;
-}
-config_ends rules form name files reads reads' writes writes' main main' OutOfMemory named same h =
-    record { text = []; cause = tt; on_main = same; unwritten = λ e. cc }
-config_ends rules form name files reads reads' writes writes' main main' Written named same h = absurd h
-config_ends rules form name files reads reads' writes writes' main main' Accepted named same h = absurd h
-config_ends rules form name files reads reads' writes writes' main main' BadWords named same h = absurd h
-config_ends rules form name files reads reads' writes writes' main main' (RulesRefused refusal) named same h = absurd h
-config_ends rules form name files reads reads' writes writes' main main' (BadImage fault) named same h = absurd h
-config_ends rules form name files reads reads' writes writes' main main' Unwritten named same h = absurd h
-config_ends rules form name files reads reads' writes writes' main main' (CyclesEnded events cycles) named same h = absurd h
-config_ends rules form name files reads reads' writes writes' main main' (Stopped cause pc events cycles) named same h = absurd h
+-- a command that tries no rule
+pub passed_by : {B : Type 0} (form : Option Form) (boxes : Boxes B) (c : Config) → (TriesRules form → ⊥) → AreUntouched boxes → HavePassed form boxes c
+passed_by form boxes c none same = record { taken = λ t. absurd (none t); untouched = λ n. same }
 
-pub image_ends : (rules : Acceptance) (form : Option Form) (config name : List ℕ) (files : Option Files) (c : Config) (reads reads' writes writes' : ℕ) (main main' : Option (List ℕ))
-    (end : CallEnd) → config_name form ≡ Some config → image_name form ≡ Some name → Gives form files c → main' ≡ main
-    → IsImageEnd name files c.mem reads reads' end → IsEnd rules form files reads reads' writes writes' main main' end
-image_ends rules form config name files c reads reads' writes writes' main main' (BadImage fault) first named given same h = record {
-  text = [];
-  cause = record { config = c; gives = given; refused = record { name = name; is_name = named; bytes = h.0; file = h.1; fact = h.2 } };
-  on_main = same;
-  unwritten = λ e. cc;
+pub config_ends : {B : Type 0} (seen : Seen B) (name : List ℕ) (end : CallEnd) → config_name seen.call.form ≡ Some name → seen.new.main ≡ seen.old.main
+    → AreUntouched seen.call.boxes → IsConfigEnd (takes_of seen.call.form) name seen.call.files seen.old.read_faults seen.new.read_faults end → IsEnd seen end
+config_ends seen name (Refused refusal) named same boxes h = record {
+  refusal = h.2.0;
+  refused = record { name = name; is_name = named; bytes = h.0; file = h.1; fact = h.2.1 };
+  main = same;
+  is_line = sym h.2.2;
+  boxes = boxes;
 }
-image_ends rules form config name files c reads reads' writes writes' main main' BadFile first named given same (inl rose) = record {
-  text = [];
-  cause = (config, first, inl rose);
-  on_main = same;
-  unwritten = λ e. cc;
+config_ends seen name BadFile named same boxes (inl rose) = record {
+  unread = inl (record { name = name; is_name = named; cause = inl rose; boxes = boxes });
+  main = same;
+  is_line = refl;
 }
-image_ends rules form config name files c reads reads' writes writes' main main' BadFile first named given same (inr missing) = record {
-  text = [];
-  cause = (config, first, inr (inr ((c, given), (name, named, missing))));
-  on_main = same;
-  unwritten = λ e. cc;
+config_ends seen name BadFile named same boxes (inr missing) = record {
+  unread = inl (record { name = name; is_name = named; cause = inr (name, named, missing); boxes = boxes });
+  main = same;
+  is_line = refl;
 }
-image_ends rules form config name files c reads reads' writes writes' main main' OutOfMemory first named given same h =
-    record { text = []; cause = tt; on_main = same; unwritten = λ e. cc }
-image_ends rules form config name files c reads reads' writes writes' main main' Written first named given same h = absurd h
-image_ends rules form config name files c reads reads' writes writes' main main' Accepted first named given same h = absurd h
-image_ends rules form config name files c reads reads' writes writes' main main' BadWords first named given same h = absurd h
-image_ends rules form config name files c reads reads' writes writes' main main' (RulesRefused refusal) first named given same h = absurd h
-image_ends rules form config name files c reads reads' writes writes' main main' (Refused refusal) first named given same h = absurd h
-image_ends rules form config name files c reads reads' writes writes' main main' Unwritten first named given same h = absurd h
-image_ends rules form config name files c reads reads' writes writes' main main' (CyclesEnded events cycles) first named given same h = absurd h
-image_ends rules form config name files c reads reads' writes writes' main main' (Stopped cause pc events cycles) first named given same h = absurd h
+config_ends seen name OutOfMemory named same boxes h = record { main = same; is_line = refl; boxes = inl boxes }
+config_ends seen name Written named same boxes h = absurd h
+config_ends seen name Accepted named same boxes h = absurd h
+config_ends seen name BadWords named same boxes h = absurd h
+config_ends seen name (RulesRefused refusal) named same boxes h = absurd h
+config_ends seen name (BadImage fault) named same boxes h = absurd h
+config_ends seen name Unwritten named same boxes h = absurd h
+config_ends seen name (CyclesEnded events cycles) named same boxes h = absurd h
+config_ends seen name (Stopped cause pc events cycles) named same boxes h = absurd h
+
+-- ---- the rules
+
+pub judged : {B : Type 0} (seen : Seen B) (config : Config) (end : CallEnd) → TriesRules seen.call.form → Gives seen.call config
+    → seen.new.main ≡ seen.old.main → IsJudged seen.call.boxes config end → IsEnd seen end
+judged seen config (RulesRefused refusal) tries given same h = record {
+  tries = tries;
+  config = config;
+  gives = given;
+  refusal = refusal;
+  refused = h.0;
+  main = same;
+  is_line = refl;
+  boxes = h.1;
+}
+judged seen config OutOfMemory tries given same h = record { main = same; is_line = refl; boxes = inr (tries, (config, given, h)) }
+judged seen config Written tries given same h = absurd h
+judged seen config Accepted tries given same h = absurd h
+judged seen config BadWords tries given same h = absurd h
+judged seen config (Refused refusal) tries given same h = absurd h
+judged seen config (BadImage fault) tries given same h = absurd h
+judged seen config BadFile tries given same h = absurd h
+judged seen config Unwritten tries given same h = absurd h
+judged seen config (CyclesEnded events cycles) tries given same h = absurd h
+judged seen config (Stopped cause pc events cycles) tries given same h = absurd h
+
+-- a command that tries the rules passes where all hold
+pub passes_rules : {B : Type 0} (call : Call B) (config : Config) → TriesRules call.form → Gives call config → HaveTakenAll call.boxes config → Passes call config
+passes_rules call config tries given taken = record { gives = given; boxes = record { taken = λ t. taken; untouched = λ none. absurd (none tries) } }
+
+-- ---- texts that are no run's
+
+module _ {B : Type 0} (name : List ℕ) (files : Option Files) (boxes : Boxes B) (old new : Outside) (config : Config) where
+  abbrev gen_call : Call B
+  gen_call = record { form = Some (Gen name); files = files; boxes = boxes }
+
+  gen_text : (text : List ℕ) → Gives gen_call config → AreUntouched boxes → IsCoreText config text → IsTextFor (Some (Gen name)) gen_call text
+  gen_text text given same core =
+      record { config = config; passes = record { gives = given; boxes = passed_by (Some (Gen name)) boxes config (λ t. t) same }; core = core }
+
+  pub written : (text : List ℕ) → Gives gen_call config → AreUntouched boxes → IsCoreText config text → Appends old.main text new.main
+      → IsEnd (record { call = gen_call; old = old; new = new }) Written
+  written text given same core main = record { text = text; is_text = gen_text text given same core; main = main; is_line = refl }
+
+  pub unwritten : (text : List ℕ) → Gives gen_call config → AreUntouched boxes → IsCoreText config text → IsCut old.main text new.main
+      → Rose old.write_faults new.write_faults → IsEnd (record { call = gen_call; old = old; new = new }) Unwritten
+  unwritten text given same core main rose =
+      record { text = text; may_be = inl (gen_text text given same core); main = main; is_line = refl; failed = rose }
+
+  abbrev rules_call : Call B
+  rules_call = record { form = Some (Rules name); files = files; boxes = boxes }
+
+  rules_text : Gives rules_call config → HaveTakenAll boxes config → IsTextFor (Some (Rules name)) rules_call (codes "accepted\n")
+  rules_text given taken = record { config = config; passes = passes_rules rules_call config tt given taken; is_line = refl }
+
+  pub accepted : Gives rules_call config → HaveTakenAll boxes config → Appends old.main (codes "accepted\n") new.main
+      → IsEnd (record { call = rules_call; old = old; new = new }) Accepted
+  accepted given taken main = record { text = codes "accepted\n"; is_text = rules_text given taken; main = main; is_line = refl }
+
+  pub unaccepted : Gives rules_call config → HaveTakenAll boxes config → IsCut old.main (codes "accepted\n") new.main
+      → Rose old.write_faults new.write_faults → IsEnd (record { call = rules_call; old = old; new = new }) Unwritten
+  unaccepted given taken main rose =
+      record { text = codes "accepted\n"; may_be = inl (rules_text given taken); main = main; is_line = refl; failed = rose }
+
+-- ---- the image
+
+pub image_ends : {B : Type 0} (seen : Seen B) (image : List ℕ) (c : Config) (end : CallEnd) → image_name seen.call.form ≡ Some image
+    → (TriesRules seen.call.form → ⊥) → Passes seen.call c → seen.new.main ≡ seen.old.main
+    → IsImageEnd image seen.call.files c.mem seen.old.read_faults seen.new.read_faults end → IsEnd seen end
+image_ends seen image c (BadImage fault) named none passes same h = record {
+  config = c;
+  passes = passes;
+  fault = fault;
+  refused = record { name = image; is_name = named; bytes = h.0; file = h.1; fact = h.2 };
+  main = same;
+  is_line = refl;
+}
+image_ends seen image c BadFile named none passes same (inl rose) = record {
+  unread = inr (record { config = c; passes = passes; name = image; is_name = named; cause = inl rose });
+  main = same;
+  is_line = refl;
+}
+image_ends seen image c BadFile named none passes same (inr missing) = record {
+  unread = inr (record { config = c; passes = passes; name = image; is_name = named; cause = inr (image, named, missing) });
+  main = same;
+  is_line = refl;
+}
+image_ends seen image c OutOfMemory named none passes same h = record { main = same; is_line = refl; boxes = inl (passes.boxes.untouched none) }
+image_ends seen image c Written named none passes same h = absurd h
+image_ends seen image c Accepted named none passes same h = absurd h
+image_ends seen image c BadWords named none passes same h = absurd h
+image_ends seen image c (RulesRefused refusal) named none passes same h = absurd h
+image_ends seen image c (Refused refusal) named none passes same h = absurd h
+image_ends seen image c Unwritten named none passes same h = absurd h
+image_ends seen image c (CyclesEnded events cycles) named none passes same h = absurd h
+image_ends seen image c (Stopped cause pc events cycles) named none passes same h = absurd h
 
 pub image_end_earlier : (name : List ℕ) (mem : MemShape) (files files' : Option Files) (before mid now : ℕ) (end : CallEnd) → files' ≡ files → before ≤ mid
     → IsImageEnd name files' mem mid now end → IsImageEnd name files mem before now end
@@ -110,10 +177,12 @@ image_end_earlier name mem files files' before mid now Unwritten same less h = h
 image_end_earlier name mem files files' before mid now (CyclesEnded events cycles) same less h = h
 image_end_earlier name mem files files' before mid now (Stopped cause pc events cycles) same less h = h
 
+-- ---- the run
+
 -- what a run was asked for and stands on
-pub record IsSetUp (name image : List ℕ) (options : Options) (files : Option Files) (config : Config) (t : Tree) (m : Memory) : Type 0 where
-  pub gives : Gives (Some (Run name image options)) files config
-  pub loaded : IsLoaded image files config.mem m
+pub record IsSetUp {B : Type 0} (call : Call B) (image : List ℕ) (config : Config) (t : Tree) (m : Memory) : Type 0 where
+  pub passes : Passes call config
+  pub loaded : IsLoaded image call.files config.mem m
   pub is_memory : IsMemory m
   pub core : IsCoreTree config.shape.reset_pc t
 
@@ -121,109 +190,58 @@ pub record IsSetUp (name image : List ℕ) (options : Options) (files : Option F
 abbrev set_text : Options → Tree → Memory → List ℕ
 set_text options t m = run_text options.trace (run_of (plain_tree t) m (options.wait ∷ [])) options.cycles
 
-run_text_of : (name image : List ℕ) (options : Options) (files : Option Files) (config : Config) (t : Tree) (m : Memory) (ended : Ended)
-    → IsSetUp name image options files config t m → ended ≡ end_of (run_of (plain_tree t) m (options.wait ∷ [])) options.cycles
-    → IsOverBuses (plain_tree t) m (options.wait ∷ []) → IsRunText (Some (Run name image options)) files ended (set_text options t m)
-run_text_of name image options files config t m ended set ends over = record {
-  name = name;
-  image = image;
-  options = options;
-  is_run = refl;
+run_text_of : {B : Type 0} (call : Call B) (image : List ℕ) (options : Options) (config : Config) (t : Tree) (m : Memory) (ended : Ended)
+    → IsSetUp call image config t m → ended ≡ end_of (run_of (plain_tree t) m (options.wait ∷ [])) options.cycles
+    → IsOverBuses (plain_tree t) m (options.wait ∷ []) → IsRunText call image options ended (set_text options t m)
+run_text_of call image options config t m ended set ends over = record {
   config = config;
-  gives = set.gives;
+  passes = set.passes;
   bytes = set.loaded.image;
   file = set.loaded.file;
   fits = set.loaded.fits;
   run = core_run config set.loaded.image options t m ended set.core set.loaded.loaded set.is_memory ends over;
 }
 
-pub run_ends : (rules : Acceptance) (name image : List ℕ) (options : Options) (files : Option Files) (config : Config) (t : Tree) (m : Memory)
-    (reads reads' writes mid writes' : ℕ) (main before main' : Option (List ℕ)) (end : CallEnd)
-    → IsSetUp name image options files config t m → before ≡ main → writes ≤ mid
-    → IsSimulated (plain_tree t) m options before main' mid writes' end
-    → IsEnd rules (Some (Run name image options)) files reads reads' writes writes' main main' end
-run_ends rules name image options files config t m reads reads' writes mid writes' main before main' (CyclesEnded events cycles) set same less h = record {
-  text = set_text options t m;
-  cause = run_text_of name image options files config t m (run_end.CyclesEnded events cycles) set h.ends h.over;
-  on_main = subst (λ p. Appends p (set_text options t m) main') same h.text;
-  unwritten = λ e. cc;
-}
-run_ends rules name image options files config t m reads reads' writes mid writes' main before main' (Stopped cause pc events cycles) set same less h = record {
-  text = set_text options t m;
-  cause = run_text_of name image options files config t m (run_end.Stopped cause pc events cycles) set h.ends h.over;
-  on_main = subst (λ p. Appends p (set_text options t m) main') same h.text;
-  unwritten = λ e. cc;
-}
-run_ends rules name image options files config t m reads reads' writes mid writes' main before main' Unwritten set same less h = record {
-  text = set_text options t m;
-  cause = inr (end_of (run_of (plain_tree t) m (options.wait ∷ [])) options.cycles, run_text_of name image options files config t m _ set refl h.over);
-  on_main = subst (λ p. IsCut p (set_text options t m) main') same h.text;
-  unwritten = λ e. Rose-earlier writes mid writes' less h.rose;
-}
-run_ends rules name image options files config t m reads reads' writes mid writes' main before main' OutOfMemory set same less h =
-    record { text = []; cause = tt; on_main = h ∙ same; unwritten = λ e. cc }
-run_ends rules name image options files config t m reads reads' writes mid writes' main before main' Written set same less h = absurd h
-run_ends rules name image options files config t m reads reads' writes mid writes' main before main' Accepted set same less h = absurd h
-run_ends rules name image options files config t m reads reads' writes mid writes' main before main' BadWords set same less h = absurd h
-run_ends rules name image options files config t m reads reads' writes mid writes' main before main' (RulesRefused refusal) set same less h = absurd h
-run_ends rules name image options files config t m reads reads' writes mid writes' main before main' (Refused refusal) set same less h = absurd h
-run_ends rules name image options files config t m reads reads' writes mid writes' main before main' BadFile set same less h = absurd h
-run_ends rules name image options files config t m reads reads' writes mid writes' main before main' (BadImage fault) set same less h = absurd h
+module _ {B : Type 0} (name image : List ℕ) (options : Options) (files : Option Files) (boxes : Boxes B) (old new : Outside) where
+  abbrev run_call : Call B
+  run_call = record { form = Some (Run name image options); files = files; boxes = boxes }
 
--- ---- what was pulled
+  abbrev run_seen : Seen B
+  run_seen = record { call = run_call; old = old; new = new }
 
-pub pulled_config : (form : Option Form) (name : List ℕ) (files : Option Files) (old new new' : ℕ → List ℕ) (before now now' : ℕ) → config_name form ≡ Some name
-    → ((m : ℕ) → new' m ≡ new m) → now ≤ now' → PulledOne 1048577 name files old new before now → Pulled form files old new' before now'
-pulled_config form name files old new new' before now now' named same less (inl none) = inl (λ m. same m ∙ none m)
-pulled_config form name files old new new' before now now' named same less (inr (n, others, few)) = inr (inl (record {
-  name = name;
-  n = n;
-  is_name = named;
-  others = λ m other. same m ∙ others m other;
-  few = PulledUnlessFault-later 1048577 name files (new n) (new' n) before now now' (same n) less few;
-}))
-
--- two numbers are the same or not
-same_or_not : (n m : ℕ) → (n ≡ m) ⊎ (n ≡ m → ⊥)
-same_or_not n m = elim (cases_lt n m) [
-  | inl less ↦ inr (λ e. omega (arith, e, less))
-  | inr most ↦ elim (cases_lt m n) [ inl less ↦ inr (λ e. omega (arith, e, less)) | inr least ↦ inl (omega (arith, most, least)) ]
-]
-
-earlier : (most : ℕ) (name : List ℕ) (files : Option Files) (left : List ℕ) (before mid now : ℕ) → before ≤ mid
-    → PulledUnlessFault most name files left mid now → PulledUnlessFault most name files left before now
-earlier most name files left before mid now less (inl rose) = inl (Rose-earlier before mid now less rose)
-earlier most name files left before mid now less (inr few) = inr few
-
-pub pulled_both : (form : Option Form) (config image : List ℕ) (files : Option Files) (old mid new : ℕ → List ℕ) (before between now : ℕ)
-    → config_name form ≡ Some config → image_name form ≡ Some image → IsGiven form files → before ≤ between → between ≤ now
-    → PulledOne 1048577 config files old mid before between → PulledOne 67108865 image files mid new between now → Pulled form files old new before now
-pulled_both form config image files old mid new before between now first second accepted less more one (inl none) =
-    pulled_config form config files old mid new before between now first none more one
-pulled_both form config image files old mid new before between now first second accepted less more (inl none) (inr (m, others, few)) = inr (inr (record {
-  config = config;
-  image = image;
-  n = m;
-  m = m;
-  is_config = first;
-  is_image = second;
-  given = accepted;
-  others = λ k other other'. others k other' ∙ none k;
-  few = inl refl;
-  few_of_image = earlier 67108865 image files (new m) before between now less few;
-}))
-pulled_both form config image files old mid new before between now first second accepted less more (inr (n, others, few)) (inr (m, others', few')) = inr (inr (record {
-  config = config;
-  image = image;
-  n = n;
-  m = m;
-  is_config = first;
-  is_image = second;
-  given = accepted;
-  others = λ k other other'. others' k other' ∙ others k other;
-  few = elim (same_or_not n m) [
-    | inl same ↦ inl same
-    | inr other ↦ inr (PulledUnlessFault-later 1048577 config files (mid n) (new n) before between now (others' n other) more few)
-  ];
-  few_of_image = earlier 67108865 image files (new m) before between now less few';
-}))
+  pub run_ends : (config : Config) (t : Tree) (m : Memory) (before : Option (List ℕ)) (mid : ℕ) (end : CallEnd)
+      → IsSetUp run_call image config t m → AreUntouched boxes → before ≡ old.main → old.write_faults ≤ mid
+      → IsSimulated (plain_tree t) m options before new.main mid new.write_faults end → IsEnd run_seen end
+  run_ends config t m before mid (CyclesEnded events cycles) set boxed same less h = record {
+    events = events;
+    cycles = cycles;
+    text = set_text options t m;
+    run = run_text_of run_call image options config t m (run_end.CyclesEnded events cycles) set h.ends h.over;
+    main = subst (λ p. Appends p (set_text options t m) new.main) same h.text;
+    is_line = refl;
+  }
+  run_ends config t m before mid (Stopped cause pc events cycles) set boxed same less h = record {
+    cause = cause;
+    pc = pc;
+    events = events;
+    cycles = cycles;
+    text = set_text options t m;
+    run = run_text_of run_call image options config t m (run_end.Stopped cause pc events cycles) set h.ends h.over;
+    main = subst (λ p. Appends p (set_text options t m) new.main) same h.text;
+    is_line = refl;
+  }
+  run_ends config t m before mid Unwritten set boxed same less h = record {
+    text = set_text options t m;
+    may_be = inr (end_of (run_of (plain_tree t) m (options.wait ∷ [])) options.cycles, run_text_of run_call image options config t m _ set refl h.over);
+    main = subst (λ p. IsCut p (set_text options t m) new.main) same h.text;
+    is_line = refl;
+    failed = Rose-earlier old.write_faults mid new.write_faults less h.rose;
+  }
+  run_ends config t m before mid OutOfMemory set boxed same less h = record { main = h ∙ same; is_line = refl; boxes = inl boxed }
+  run_ends config t m before mid Written set boxed same less h = absurd h
+  run_ends config t m before mid Accepted set boxed same less h = absurd h
+  run_ends config t m before mid BadWords set boxed same less h = absurd h
+  run_ends config t m before mid (RulesRefused refusal) set boxed same less h = absurd h
+  run_ends config t m before mid (Refused refusal) set boxed same less h = absurd h
+  run_ends config t m before mid BadFile set boxed same less h = absurd h
+  run_ends config t m before mid (BadImage fault) set boxed same less h = absurd h

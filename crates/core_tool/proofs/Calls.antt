@@ -16,8 +16,8 @@ use Rattle.core_tool.specs.Reading.{fixed_config_of, fixed_of, said_to, unless_e
 use Rattle.core_tool.specs.declared.reading.Takes.{Takes}
 use Rattle.core_tool.specs.declared.reading.Takes.TheVariants.{NoEntry, All}
 use Rattle.core_tool.specs.Lines.{refusal_line}
-use Rattle.core_tool.specs.Files.{IsFile, IsRefusedWith, PulledUnlessFault, image_fault}
-use Rattle.core_tool.specs.Parts.{ForBytes}
+use Rattle.core_tool.specs.Files.{IsFile, PulledUnlessFault, image_fault}
+use Rattle.core_tool.specs.Parts.{ForBytes, IsRefusedWith}
 
 -- an answer that is a configuration, or a refusal other than a lack of memory, is what the bytes say
 pub answer_ok : (p : Result Config ConfigRefusal) (c : Config) → IsAnswer (Ok c) p → p ≡ Ok c

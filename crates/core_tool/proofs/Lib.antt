@@ -3,6 +3,9 @@ pub mod OptionWords
 pub mod Pieces
 pub mod Runs
 pub mod CallEnds
-pub mod Statuses
-pub mod RuleEnds
-pub mod BoxEnds
+pub mod Pulls
+pub mod OtherBoxes
+pub mod Finished
+pub mod Exact
+pub mod Answered
+pub mod AnswerLaws

@@ -5,7 +5,7 @@ use Rattle.std.proofs.lemmas.List.{drop_all}
 use Rattle.core_host.specs.Outside.{Appends, IsCut, grown}
 use Rattle.fixed_core.proofs.Pushes.{Appends-append, IsCut-append, IsCut-after}
 use Rattle.core_tool.specs.declared.lines.Piece.{Piece}
-use Rattle.core_tool.specs.Lines.{joined, piece_bytes}
+use Rattle.core_tool.specs.Pieces.{joined, piece_bytes}
 
 pub grown-nil : (old : Option (List ℕ)) → grown old [] ≡ old
 grown-nil None = refl

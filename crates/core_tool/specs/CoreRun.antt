@@ -26,7 +26,11 @@ bytes_with size image = image ++ replicate (size - length image) 0
 abbrev pub memory_of : MemShape → (image : List ℕ) → Memory
 memory_of mem image = record { base = mem.base; bytes = bytes_with mem.size image }
 
--- a tree is that of a text of the core with this reset pc
+-- the text of the core of a configuration: so far the fixed core, with the reset pc of the configuration
+abbrev pub IsCoreText : Config → (text : List ℕ) → Type 0
+IsCoreText config text = IsFixedCoreText config.shape.reset_pc text
+
+-- a tree is that of a text of the fixed core with this reset pc
 pub record IsCoreTree (reset_pc : ℕ) (t : Tree) : Type 0 where
   pub text : List ℕ
   pub is_text : IsFixedCoreText reset_pc text
@@ -34,6 +38,10 @@ pub record IsCoreTree (reset_pc : ℕ) (t : Tree) : Type 0 where
   pub sound : IsSound t
   -- it has the core's ports, too
   pub refines : Refines (plain_tree t) fixed_set reset_pc
+
+-- the tree of the core of a configuration
+abbrev pub IsTreeOfCore : Config → Tree → Type 0
+IsTreeOfCore config t = IsCoreTree config.shape.reset_pc t
 
 -- the run of a tree over an image in a memory
 abbrev pub run_over : Tree → MemShape → (image : List ℕ) → Options → Trace
@@ -43,7 +51,7 @@ run_over t mem image options = run_of (plain_tree t) (memory_of mem image) (opti
 -- machine from registers that are 0: its events are those of one machine run.
 pub record IsCoreRun (config : Config) (image : List ℕ) (options : Options) (ended : Ended) (text : List ℕ) : Type 0 where
   pub tree : Tree
-  pub core : IsCoreTree config.shape.reset_pc tree
+  pub core : IsTreeOfCore config tree
   pub ends : ended ≡ end_of (run_over tree config.mem image options) options.cycles
   pub lines : text ≡ run_text options.trace (run_over tree config.mem image options) options.cycles
   pub follows : (n : ℕ) → Follows fixed_set (machine_from fixed_set (replicate 32 0) config.shape.reset_pc (memory_of config.mem image))

@@ -1,8 +1,6 @@
--- The status of each end of a call, and the line that it writes on the port of notes.
-use Rattle.std.specs.Prelude.{◌++◌, ◌%◌, ℕ, nat_lt, List, [], ◌∷◌, Option, Some, None, codes, decimal, if◌then◌else◌}
+-- The lines on the port Notes, but for those on rules.
+use Rattle.std.specs.Prelude.{◌++◌, ◌%◌, ℕ, nat_lt, List, [], Option, Some, None, codes, decimal, if◌then◌else◌}
 use Rattle.verilog_tree.specs.Hex.{hex8}
-use Rattle.core_tool.specs.declared.status.Status.{Status}
-use Rattle.core_tool.specs.declared.status.Status.TheVariants as status
 use Rattle.core_config.specs.declared.refusal.Want.{Want}
 use Rattle.core_config.specs.declared.refusal.Want.TheVariants as want
 use Rattle.core_config.specs.declared.refusal.KeyPath.{KeyPath}
@@ -10,26 +8,8 @@ use Rattle.core_config.specs.declared.refusal.ConfigRefusal.{ConfigRefusal}
 use Rattle.core_config.specs.declared.refusal.ConfigRefusal.TheVariants as config
 use Rattle.core_tool.specs.declared.ends.ImageFault.{ImageFault}
 use Rattle.core_tool.specs.declared.ends.ImageFault.TheVariants as image
-use Rattle.core_tool.specs.declared.lines.Piece.{Piece}
-use Rattle.core_tool.specs.declared.lines.Piece.TheVariants.{Text, Hex, Decimal}
-use Rattle.core_tool.specs.declared.ends.CallEnd.{CallEnd}
-use Rattle.core_tool.specs.declared.ends.CallEnd.TheVariants.{Written, Accepted, BadWords, Refused, RulesRefused, BadFile, BadImage, OutOfMemory, Unwritten, CyclesEnded, Stopped}
-use Rattle.core_tool.specs.RuleLines.{rule_line}
 
--- the status of a call that ends so, where its line is written
-abbrev pub status_of : CallEnd → Status
-status_of Written = status.Done
-status_of Accepted = status.Done
-status_of BadWords = status.Usage
-status_of (Refused refusal) = status.ConfigRefused
-status_of (RulesRefused refusal) = status.RulesRefused
-status_of BadFile = status.ReadFault
-status_of (BadImage fault) = status.ImageRefused
-status_of OutOfMemory = status.NoMemory
-status_of Unwritten = status.WriteFault
-status_of (CyclesEnded events cycles) = status.CyclesEnded
-status_of (Stopped cause pc events cycles) = status.Stopped
-
+-- what is wanted of a key, and the end of its line
 abbrev pub want_ending : Want → List ℕ
 want_ending want.Integer = codes " want=integer\n"
 want_ending want.Text = codes " want=text\n"
@@ -73,27 +53,3 @@ cycles_line events cycles = codes "cycles " ++ (decimal cycles ++ (codes " event
 abbrev pub stopped_line : (cause pc events cycles : ℕ) → List ℕ
 stopped_line cause pc events cycles = codes "stopped cause=" ++ (hex8 cause ++ (codes " pc=" ++ (hex8 pc ++
     (codes " events=" ++ (decimal events ++ (codes " cycles=" ++ (decimal cycles ++ codes "\n")))))))
-
--- the line of an end
-abbrev pub line_of : CallEnd → List ℕ
-line_of Written = []
-line_of Accepted = []
-line_of BadWords = codes "usage\n"
-line_of (Refused refusal) = refusal_line refusal
-line_of (RulesRefused refusal) = rule_line refusal
-line_of BadFile = codes "read fault\n"
-line_of (BadImage fault) = image_line fault
-line_of OutOfMemory = codes "no memory\n"
-line_of Unwritten = []
-line_of (CyclesEnded events cycles) = cycles_line events cycles
-line_of (Stopped cause pc events cycles) = stopped_line cause pc events cycles
-
--- the bytes of a piece, and of pieces in a row
-abbrev pub piece_bytes : Piece → List ℕ
-piece_bytes (Text text) = text.now
-piece_bytes (Hex number) = hex8 number
-piece_bytes (Decimal number) = decimal number
-
-abbrev pub joined : List Piece → List ℕ
-joined [] = []
-joined (piece ∷ pieces) = piece_bytes piece ++ joined pieces

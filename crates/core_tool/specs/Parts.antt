@@ -1,5 +1,5 @@
 -- What the parts of a call answer: the configuration read, the image loaded, the run simulated.
-use Rattle.std.specs.Prelude.{◌≡◌, ◌⊎◌, ◌≤◌, ℕ, List, [], ◌∷◌, length, Option, Some}
+use Rattle.std.specs.Prelude.{◌≡◌, ◌⊎◌, ◌≤◌, ℕ, List, [], ◌∷◌, length, Option, Some, Err}
 use Rattle.core_host.specs.Outside.{Files, Rose, Appends, IsCut, IsMissing, SameButOne}
 use Rattle.bus_law.specs.Memory.{Memory}
 use Rattle.stage_map.specs.declared.config.MemShape.{MemShape}
@@ -12,10 +12,14 @@ use Rattle.core_sim.specs.Ends.{end_of, run_text}
 use Rattle.core_sim.specs.Over.{IsOverBuses}
 use Rattle.core_tool.specs.declared.ends.CallEnd.{CallEnd}
 use Rattle.core_tool.specs.declared.ends.CallEnd.TheVariants.{Refused, RulesRefused, BadFile, BadImage, OutOfMemory, Unwritten, CyclesEnded, Stopped}
-use Rattle.core_tool.specs.Acceptance.{Acceptance}
 use Rattle.core_tool.specs.declared.options.Options.{Options}
 use Rattle.core_tool.specs.declared.reading.Takes.{Takes}
-use Rattle.core_tool.specs.Files.{IsFile, IsRefusedWith, PulledUnlessFault, image_fault}
+use Rattle.core_config.specs.declared.refusal.ConfigRefusal.{ConfigRefusal}
+use Rattle.core_tool.specs.Reading.{said_to}
+use Rattle.core_tool.specs.Lines.{refusal_line}
+use Rattle.core_tool.specs.Call.{Boxes}
+use Rattle.core_tool.specs.Boxes.{HaveTakenBefore, HaveTakenSome, Refuse}
+use Rattle.core_tool.specs.Files.{IsFile, PulledUnlessFault, image_fault}
 use Rattle.core_tool.specs.CoreRun.{memory_of}
 
 -- the file of that name is not read
@@ -33,6 +37,10 @@ PulledOne most name files old new before now = ((m : ℕ) → new m ≡ old m)
 abbrev pub ForBytes : (name : List ℕ) → Option Files → (P : List ℕ → Type 0) → Type 0
 ForBytes name files P = (bytes : List ℕ) × IsFile name files bytes × P bytes
 
+-- bytes are refused with the line of this refusal; how many too long ones are is not told
+abbrev pub IsRefusedWith : Takes → ConfigRefusal → List ℕ → Type 0
+IsRefusedWith takes refusal bytes = (first : ConfigRefusal) × (said_to takes bytes ≡ Err first) × (refusal_line first ≡ refusal_line refusal)
+
 -- the end of a call whose configuration is not read or refused
 abbrev pub IsConfigEnd : Takes → (name : List ℕ) → Option Files → (before now : ℕ) → CallEnd → Type 0
 IsConfigEnd takes name files before now (Refused refusal) = ForBytes name files (IsRefusedWith takes refusal)
@@ -42,11 +50,11 @@ IsConfigEnd takes name files before now other = ⊥
 
 -- ---- the rules
 
--- the end of a call whose configuration is not accepted
-abbrev pub IsRulesEnd : Acceptance → Config → CallEnd → Type 0
-IsRulesEnd rules config (RulesRefused refusal) = rules.refuses config refusal
-IsRulesEnd rules config OutOfMemory = Unit {0}
-IsRulesEnd rules config other = ⊥
+-- the end of a call whose configuration is not accepted, and what becomes of the boxes
+abbrev pub IsJudged : {B : Type 0} → Boxes B → Config → CallEnd → Type 0
+IsJudged boxes config (RulesRefused refusal) = Refuse boxes config refusal × HaveTakenBefore boxes config refusal
+IsJudged boxes config OutOfMemory = HaveTakenSome boxes config
+IsJudged boxes config other = ⊥
 
 -- ---- the image
 

@@ -14,23 +14,23 @@ pub data Form : Type 0 where
   Rules : (name : List ℕ) → Form
 
 -- a word is the name of a file: it is not empty and does not begin with `-`
-abbrev pub is_name_lem : List ℕ → Bool
-is_name_lem [] = false
-is_name_lem (b ∷ bs) = not (nat_eq b 45)
+abbrev pub is_file_name : List ℕ → Bool
+is_file_name [] = false
+is_file_name (b ∷ bs) = not (nat_eq b 45)
 
 -- `gen NAME`, behind the first word
 abbrev pub gen_of : List (List ℕ) → Option Form
-gen_of (name ∷ []) = if is_name_lem name then Some (Gen name) else None
+gen_of (name ∷ []) = if is_file_name name then Some (Gen name) else None
 gen_of _ = None
 
 -- `run CONFIG IMAGE` and options, behind the first word
 abbrev pub run_of : List (List ℕ) → Option Form
-run_of (config ∷ image ∷ words) = if is_name_lem config && is_name_lem image then option_map (Run config image) (options_of words) else None
+run_of (config ∷ image ∷ words) = if is_file_name config && is_file_name image then option_map (Run config image) (options_of words) else None
 run_of _ = None
 
 -- `rules NAME`, behind the first word
 abbrev pub rules_of : List (List ℕ) → Option Form
-rules_of (name ∷ []) = if is_name_lem name then Some (Rules name) else None
+rules_of (name ∷ []) = if is_file_name name then Some (Rules name) else None
 rules_of _ = None
 
 -- the form of the words, without the program's name

@@ -1,23 +1,37 @@
-ghost use Rattle.std.specs.Prelude.{◌≡◌, ◌≤◌, ◌<◌, ◌^◌, ◌⊎◌, ℕ, List, Some, None, Ok, Err, IsErr, IfOk, IfErr, length};
+ghost use Rattle.std.specs.Prelude.{◌≡◌, ◌≤◌, ◌<◌, ◌^◌, ℕ, Some, IfOk, IfErr, length};
 ghost use Rattle.core_host.specs.declared.host.Port.{Port};
 ghost use Rattle.core_host.specs.declared.host.Port.TheVariants.{Main, Notes};
-ghost use Rattle.core_host.specs.Outside.{Rose, Appends};
-ghost use Rattle.core_sim.specs.declared.ended.Ended.TheVariants as run_end;
-ghost use Rattle.stage_map.specs.declared.config.Config.{Config};
-ghost use Rattle.core_config.specs.declared.refusal.ConfigRefusal.{ConfigRefusal};
 ghost use Rattle.core_config.specs.Allowed.{IsConfig};
-ghost use Rattle.core_tool.specs.declared.ends.ImageFault.{ImageFault};
-ghost use Rattle.core_tool.specs.Acceptance.{acceptance_of, no_acceptance};
-ghost use Rattle.core_tool.specs.Reading.{said_for, said_to};
-ghost use Rattle.core_tool.specs.RuleLines.{rule_line};
-ghost use Rattle.plug_api.specs.Picks.{SameKinds};
-ghost use Rattle.plug_api.specs.declared.refusal.RuleRefusal.{RuleRefusal};
-ghost use Rattle.core_tool.specs.Words.{Gen, Rules, Run, form_of, words_of};
-ghost use Rattle.core_tool.specs.Lines.{cycles_line, image_line, refusal_line, stopped_line};
-ghost use Rattle.core_tool.specs.Files.{Gives, Holds, HoldsImage, IsImageRefusedAs, IsRefusedAs, IsUnread, Misses, MissesFile, Pulled, image_fault, image_name};
-ghost use Rattle.core_tool.specs.Parts.{ForBytes, IsConfigEnd, IsRulesEnd, PulledOne};
-ghost use Rattle.core_tool.specs.Boxes.{HaveTakenAll, IsJudgedSo, IsLeftBy, LeavesBoxes};
-ghost use Rattle.core_tool.specs.Call.{Ends, GotCutText, GotRun, HasLine, HasNoText, IsAnswered, IsCutLine, IsDoneText, IsEnd, IsGen, IsRefusedByRules, IsRules, IsRunStatus, IsUnlessCut};
+ghost use Rattle.core_tool.specs.Words.{Gen, Rules, Run};
+ghost use Rattle.core_tool.specs.Reading.{said_to};
+ghost use Rattle.core_tool.specs.Call.{boxes_of, seen_alone, seen_as, seen_of};
+ghost use Rattle.core_tool.specs.Boxes.{HaveTakenAll, KeepKinds};
+ghost use Rattle.core_tool.specs.Files.{Pulled};
+ghost use Rattle.core_tool.specs.Answers.{
+  EndsByRun,
+  Exactly,
+  IsConfigRefused,
+  IsCyclesEnded,
+  IsDone,
+  IsImageRefused,
+  IsNoMemory,
+  IsNoted,
+  IsReadFault,
+  IsRulesRefused,
+  IsStopped,
+  IsUsage,
+  IsWriteFault,
+  Keeps,
+  MustBeConfigRefused,
+  MustBeDone,
+  MustBeImageRefused,
+  MustBeReadFault,
+  MustBeRulesRefused,
+  MustBeUsage,
+  MustRun,
+};
+ghost use Rattle.core_tool.specs.Ends.{IsEnd, IsFinished};
+ghost use Rattle.core_tool.specs.Parts.{ForBytes, IsConfigEnd, IsJudged, PulledOne};
 
 use crate::Status;
 use crate::ends::{CallEnd, push_line};
@@ -45,101 +59,65 @@ pub fn core_main<H: Host>(
     host: &mut H,
 ) -> Status
     requires few { length plugs.old.items < 2 ^ 32 }
-    // There is an end that has its cause, and the ports are as it says. What follows says the
-    // same status by status, and what stays as it was.
-    ensures ends { Ends (acceptance_of (λ b. kind b) (λ b e. first_fault b e) (λ b e. spec_taken b e) plugs.old.items)
-        (form_of (words_of words.now)) (H.files host.old)
-        (H.read_faults host.old) (H.read_faults host.new) (H.write_faults host.old) (H.write_faults host.new)
-        (H.pushed host.old Main) (H.pushed host.new Main) (H.pushed host.old Notes) (H.pushed host.new Notes) result }
-    ensures statuses { IsAnswered result }
-    ensures usage_only { result ≡ Status.Usage → form_of (words_of words.now) ≡ None }
-    ensures usage { form_of (words_of words.now) ≡ None → IsUnlessCut Status.Usage result }
-    ensures refused_only { result ≡ Status.ConfigRefused → (refusal : ConfigRefusal)
-        × IsRefusedAs (form_of (words_of words.now)) (H.files host.old) refusal
-        × Appends (H.pushed host.old Notes) (refusal_line refusal) (H.pushed host.new Notes) }
-    ensures refused { (bytes : List ℕ) → Holds (form_of (words_of words.now)) (H.files host.old) bytes
-        → IsErr (said_for (form_of (words_of words.now)) bytes) → ¬ (Rose (H.read_faults host.old) (H.read_faults host.new))
-        → IsUnlessCut Status.ConfigRefused result }
-    ensures rules_only { result ≡ Status.RulesRefused → (refusal : RuleRefusal)
-        × IsRefusedByRules (acceptance_of (λ b. kind b) (λ b e. first_fault b e) (λ b e. spec_taken b e) plugs.old.items)
-        (form_of (words_of words.now)) (H.files host.old) refusal
-        × Appends (H.pushed host.old Notes) (rule_line refusal) (H.pushed host.new Notes) }
-    ensures rules { (bytes : List ℕ) → (config : Config) → (refusal : RuleRefusal) → IsRules (form_of (words_of words.now))
-        → Holds (form_of (words_of words.now)) (H.files host.old) bytes → said_for (form_of (words_of words.now)) bytes ≡ Ok config
-        → (acceptance_of (λ b. kind b) (λ b e. first_fault b e) (λ b e. spec_taken b e) plugs.old.items).refuses config refusal
-        → ¬ (Rose (H.read_faults host.old) (H.read_faults host.new))
-        → IsUnlessCut Status.RulesRefused result }
-    ensures image_only { result ≡ Status.ImageRefused → (fault : ImageFault)
-        × IsImageRefusedAs (form_of (words_of words.now)) (H.files host.old) fault
-        × Appends (H.pushed host.old Notes) (image_line fault) (H.pushed host.new Notes) }
-    ensures image { (bytes image : List ℕ) → (config : Config) → (fault : ImageFault)
-        → Holds (form_of (words_of words.now)) (H.files host.old) bytes → said_for (form_of (words_of words.now)) bytes ≡ Ok config
-        → HoldsImage (form_of (words_of words.now)) (H.files host.old) image → image_fault config.mem image ≡ Some fault
-        → ¬ (Rose (H.read_faults host.old) (H.read_faults host.new))
-        → IsUnlessCut Status.ImageRefused result }
-    ensures fault_only { result ≡ Status.ReadFault →
-        IsUnread (form_of (words_of words.now)) (H.files host.old) (H.read_faults host.old) (H.read_faults host.new) }
-    ensures fault { Misses (form_of (words_of words.now)) (H.files host.old) → IsUnlessCut Status.ReadFault result }
-    ensures image_missing { (bytes : List ℕ) → (config : Config)
-        → Holds (form_of (words_of words.now)) (H.files host.old) bytes → said_for (form_of (words_of words.now)) bytes ≡ Ok config
-        → MissesFile (image_name (form_of (words_of words.now))) (H.files host.old) → IsUnlessCut Status.ReadFault result }
-    ensures write_only { result ≡ Status.WriteFault → Rose (H.write_faults host.old) (H.write_faults host.new) }
-    ensures done_only { result ≡ Status.Done → (text : List ℕ)
-        × IsDoneText (acceptance_of (λ b. kind b) (λ b e. first_fault b e) (λ b e. spec_taken b e) plugs.old.items)
-        (form_of (words_of words.now)) (H.files host.old) text
-        × Appends (H.pushed host.old Main) text (H.pushed host.new Main) }
-    ensures cycles_only { result ≡ Status.CyclesEnded → (events cycles : ℕ)
-        × GotRun (form_of (words_of words.now)) (H.files host.old) (run_end.CyclesEnded events cycles)
-        (H.pushed host.old Main) (H.pushed host.new Main)
-        × Appends (H.pushed host.old Notes) (cycles_line events cycles) (H.pushed host.new Notes) }
-    ensures stopped_only { result ≡ Status.Stopped → (cause pc events cycles : ℕ)
-        × GotRun (form_of (words_of words.now)) (H.files host.old) (run_end.Stopped cause pc events cycles)
-        (H.pushed host.old Main) (H.pushed host.new Main)
-        × Appends (H.pushed host.old Notes) (stopped_line cause pc events cycles) (H.pushed host.new Notes) }
-    ensures complete { (bytes : List ℕ) → (config : Config) → IsGen (form_of (words_of words.now))
-        → Holds (form_of (words_of words.now)) (H.files host.old) bytes → said_for (form_of (words_of words.now)) bytes ≡ Ok config
-        → ¬ (Rose (H.read_faults host.old) (H.read_faults host.new))
-        → ¬ (Rose (H.write_faults host.old) (H.write_faults host.new))
-        → (result ≡ Status.Done) ⊎ (result ≡ Status.NoMemory) }
-    ensures rules_complete { (bytes : List ℕ) → (config : Config) → IsRules (form_of (words_of words.now))
-        → Holds (form_of (words_of words.now)) (H.files host.old) bytes → said_for (form_of (words_of words.now)) bytes ≡ Ok config
-        → (acceptance_of (λ b. kind b) (λ b e. first_fault b e) (λ b e. spec_taken b e) plugs.old.items).accepts config
-        → ¬ (Rose (H.read_faults host.old) (H.read_faults host.new))
-        → ¬ (Rose (H.write_faults host.old) (H.write_faults host.new))
-        → (result ≡ Status.Done) ⊎ (result ≡ Status.NoMemory) }
-    ensures run_complete { (bytes image : List ℕ) → (config : Config)
-        → Holds (form_of (words_of words.now)) (H.files host.old) bytes → said_for (form_of (words_of words.now)) bytes ≡ Ok config
-        → HoldsImage (form_of (words_of words.now)) (H.files host.old) image → length image ≤ config.mem.size
-        → ¬ (Rose (H.read_faults host.old) (H.read_faults host.new))
-        → ¬ (Rose (H.write_faults host.old) (H.write_faults host.new))
-        → IsRunStatus result }
-    ensures empty { HasNoText result → H.pushed host.new Main ≡ H.pushed host.old Main }
-    ensures cut { result ≡ Status.WriteFault →
-        GotCutText (acceptance_of (λ b. kind b) (λ b e. first_fault b e) (λ b e. spec_taken b e) plugs.old.items)
-        (form_of (words_of words.now)) (H.files host.old) (H.pushed host.old Main) (H.pushed host.new Main) }
-    ensures notes { ¬ (result ≡ Status.WriteFault)
-        → HasLine result (H.pushed host.old Notes) (H.pushed host.new Notes) }
-    // Where the text is cut off there is no line, and where the line is cut off the text is as its end says.
-    ensures cut_notes { result ≡ Status.WriteFault → (H.pushed host.new Notes ≡ H.pushed host.old Notes)
-        ⊎ IsCutLine (acceptance_of (λ b. kind b) (λ b e. first_fault b e) (λ b e. spec_taken b e) plugs.old.items)
-        (form_of (words_of words.now)) (H.files host.old) (H.read_faults host.old) (H.read_faults host.new)
-        (H.pushed host.old Main) (H.pushed host.new Main) (H.pushed host.old Notes) (H.pushed host.new Notes) }
-    ensures pulled { Pulled (form_of (words_of words.now)) (H.files host.old) (H.left host.old) (H.left host.new)
-        (H.read_faults host.old) (H.read_faults host.new) }
+    // What each answer says is in `specs/Answers`, in this order.
+    // 0: the text that the words ask for is on Main: a core, or that a configuration is accepted.
+    ensures done { Exactly Status.Done result MustBeDone IsDone
+        (seen_of words.now H.Host ⟦<dyn Plugin as Plugin>⟧ plugs.old plugs.new host.old host.new) }
+    // 2: the words are no call.
+    ensures usage { Exactly Status.Usage result MustBeUsage IsUsage
+        (seen_of words.now H.Host ⟦<dyn Plugin as Plugin>⟧ plugs.old plugs.new host.old host.new) }
+    // 3: the configuration is refused, for its first fault.
+    ensures config_refused { Exactly Status.ConfigRefused result MustBeConfigRefused IsConfigRefused
+        (seen_of words.now H.Host ⟦<dyn Plugin as Plugin>⟧ plugs.old plugs.new host.old host.new) }
+    // 4: a rule of acceptance fails, the first of them.
+    ensures rules_refused { Exactly Status.RulesRefused result MustBeRulesRefused IsRulesRefused
+        (seen_of words.now H.Host ⟦<dyn Plugin as Plugin>⟧ plugs.old plugs.new host.old host.new) }
+    // 5: the image is refused.
+    ensures image_refused { Exactly Status.ImageRefused result MustBeImageRefused IsImageRefused
+        (seen_of words.now H.Host ⟦<dyn Plugin as Plugin>⟧ plugs.old plugs.new host.old host.new) }
+    // 6: a file that the words name is not read.
+    ensures read_fault { Exactly Status.ReadFault result MustBeReadFault IsReadFault
+        (seen_of words.now H.Host ⟦<dyn Plugin as Plugin>⟧ plugs.old plugs.new host.old host.new) }
+    // 7: a push failed, in the text or in the line of another end.
+    ensures write_fault { result ≡ Status.WriteFault → IsWriteFault
+        (seen_of words.now H.Host ⟦<dyn Plugin as Plugin>⟧ plugs.old plugs.new host.old host.new) }
+    // 8: memory is wanting.
+    ensures no_memory { result ≡ Status.NoMemory → IsNoted IsNoMemory
+        (seen_of words.now H.Host ⟦<dyn Plugin as Plugin>⟧ plugs.old plugs.new host.old host.new) }
+    // 9: the cycles of the run have passed.
+    ensures cycles_ended { result ≡ Status.CyclesEnded → IsNoted IsCyclesEnded
+        (seen_of words.now H.Host ⟦<dyn Plugin as Plugin>⟧ plugs.old plugs.new host.old host.new) }
+    // 10: no command ends so yet.
+    ensures module_refused { ¬ (result ≡ Status.ModuleRefused) }
+    // 11: a trap stopped the core.
+    ensures stopped { result ≡ Status.Stopped → IsNoted IsStopped
+        (seen_of words.now H.Host ⟦<dyn Plugin as Plugin>⟧ plugs.old plugs.new host.old host.new) }
+    // 9 or 11: a run comes to its end.
+    ensures runs { MustRun (seen_of words.now H.Host ⟦<dyn Plugin as Plugin>⟧ plugs.old plugs.new host.old host.new)
+        → EndsByRun result }
+    // In each call:
+    ensures keeps { Keeps (seen_of words.now H.Host ⟦<dyn Plugin as Plugin>⟧ plugs.old plugs.new host.old host.new) }
+    ensures pulled { Pulled (seen_of words.now H.Host ⟦<dyn Plugin as Plugin>⟧ plugs.old plugs.new host.old host.new) }
+    ensures numbers { (m : ℕ) → H.given host.old m → H.given host.new m }
+    ensures names { (m : ℕ) → H.given host.old m → H.opened host.new m ≡ H.opened host.old m }
+{
+    let end = work(alloc, words, plugs, host);
+    finish(host, &end)
+}
+
+/// Writes the line of an end, and answers its status.
+fn finish<H: Host>(host: &mut H, end: &CallEnd) -> Status
+    ensures finished { IsFinished end.now result (H.pushed host.old Notes) (H.pushed host.new Notes)
+        (H.write_faults host.old) (H.write_faults host.new) }
+    ensures others { (p : Port) → ¬ (p ≡ Notes) → H.pushed host.new p ≡ H.pushed host.old p }
+    ensures left { (m : ℕ) → H.left host.new m ≡ H.left host.old m }
     ensures files { H.files host.new ≡ H.files host.old }
     ensures numbers { (m : ℕ) → H.given host.old m → H.given host.new m }
     ensures names { (m : ℕ) → H.given host.old m → H.opened host.new m ≡ H.opened host.old m }
     ensures reads { H.read_faults host.old ≤ H.read_faults host.new }
     ensures writes { H.write_faults host.old ≤ H.write_faults host.new }
-    ensures kept { SameKinds (λ b. kind b) (λ b e. first_fault b e) (λ b e. spec_taken b e) plugs.old.items plugs.new.items }
-    // Which boxes took an entry: under `rules` those that its entries name, up to what refused, and else none.
-    ensures boxes { LeavesBoxes (acceptance_of (λ b. kind b) (λ b e. first_fault b e) (λ b e. spec_taken b e) plugs.old.items)
-        (form_of (words_of words.now)) (H.files host.old) (H.read_faults host.old) (H.read_faults host.new)
-        (IsLeftBy (λ b. kind b) (λ b. taken b) (λ b. spec_now b) (λ b e. first_fault b e) (λ b e. spec_taken b e)
-        plugs.old.items plugs.new.items (form_of (words_of words.now)) (H.files host.old)) result }
 {
-    let end = work(alloc, words, plugs, host);
-    match push_line(host, &end) {
+    match push_line(host, end) {
         Ok(()) => end.status(),
         Err(_) => Status::WriteFault,
     }
@@ -153,21 +131,15 @@ fn work<H: Host>(
     host: &mut H,
 ) -> CallEnd
     requires few { length plugs.old.items < 2 ^ 32 }
-    ensures ends { IsEnd (acceptance_of (λ b. kind b) (λ b e. first_fault b e) (λ b e. spec_taken b e) plugs.old.items)
-        (form_of (words_of words.now)) (H.files host.old)
-        (H.read_faults host.old) (H.read_faults host.new) (H.write_faults host.old) (H.write_faults host.new)
-        (H.pushed host.old Main) (H.pushed host.new Main) result }
+    ensures ends { IsEnd (seen_of words.now H.Host ⟦<dyn Plugin as Plugin>⟧ plugs.old plugs.new host.old host.new) result }
+    ensures pulled { Pulled (seen_of words.now H.Host ⟦<dyn Plugin as Plugin>⟧ plugs.old plugs.new host.old host.new) }
     ensures notes { H.pushed host.new Notes ≡ H.pushed host.old Notes }
-    ensures pulled { Pulled (form_of (words_of words.now)) (H.files host.old) (H.left host.old) (H.left host.new)
-        (H.read_faults host.old) (H.read_faults host.new) }
     ensures files { H.files host.new ≡ H.files host.old }
     ensures numbers { (m : ℕ) → H.given host.old m → H.given host.new m }
     ensures names { (m : ℕ) → H.given host.old m → H.opened host.new m ≡ H.opened host.old m }
     ensures reads { H.read_faults host.old ≤ H.read_faults host.new }
     ensures writes { H.write_faults host.old ≤ H.write_faults host.new }
-    ensures kept { SameKinds (λ b. kind b) (λ b e. first_fault b e) (λ b e. spec_taken b e) plugs.old.items plugs.new.items }
-    ensures boxes { IsLeftBy (λ b. kind b) (λ b. taken b) (λ b. spec_now b) (λ b e. first_fault b e) (λ b e. spec_taken b e)
-        plugs.old.items plugs.new.items (form_of (words_of words.now)) (H.files host.old) result }
+    ensures kept { KeepKinds (boxes_of ⟦<dyn Plugin as Plugin>⟧ plugs.old plugs.new) }
 {
     match Form::of(words) {
         Some(Form::Gen { name }) => generate(alloc, name, host),
@@ -185,12 +157,9 @@ fn work<H: Host>(
 
 /// Writes the core of the configuration of that name on the main port.
 fn generate<H: Host>(alloc: Global, name: &str, host: &mut H) -> CallEnd
-    ensures ends { IsEnd no_acceptance (Some (Gen name.now)) (H.files host.old)
-        (H.read_faults host.old) (H.read_faults host.new) (H.write_faults host.old) (H.write_faults host.new)
-        (H.pushed host.old Main) (H.pushed host.new Main) result }
+    ensures ends { IsEnd (seen_alone (Gen name.now) H.Host host.old host.new) result }
+    ensures pulled { Pulled (seen_alone (Gen name.now) H.Host host.old host.new) }
     ensures notes { H.pushed host.new Notes ≡ H.pushed host.old Notes }
-    ensures pulled { Pulled (Some (Gen name.now)) (H.files host.old) (H.left host.old) (H.left host.new)
-        (H.read_faults host.old) (H.read_faults host.new) }
     ensures files { H.files host.new ≡ H.files host.old }
     ensures numbers { (m : ℕ) → H.given host.old m → H.given host.new m }
     ensures names { (m : ℕ) → H.given host.old m → H.opened host.new m ≡ H.opened host.old m }
@@ -215,12 +184,9 @@ fn run<H: Host>(
     options: Options,
     host: &mut H,
 ) -> CallEnd
-    ensures ends { IsEnd no_acceptance (Some (Run config_file.now image.now options)) (H.files host.old)
-        (H.read_faults host.old) (H.read_faults host.new) (H.write_faults host.old) (H.write_faults host.new)
-        (H.pushed host.old Main) (H.pushed host.new Main) result }
+    ensures ends { IsEnd (seen_alone (Run config_file.now image.now options) H.Host host.old host.new) result }
+    ensures pulled { Pulled (seen_alone (Run config_file.now image.now options) H.Host host.old host.new) }
     ensures notes { H.pushed host.new Notes ≡ H.pushed host.old Notes }
-    ensures pulled { Pulled (Some (Run config_file.now image.now options)) (H.files host.old) (H.left host.old) (H.left host.new)
-        (H.read_faults host.old) (H.read_faults host.new) }
     ensures files { H.files host.new ≡ H.files host.old }
     ensures numbers { (m : ℕ) → H.given host.old m → H.given host.new m }
     ensures names { (m : ℕ) → H.given host.old m → H.opened host.new m ≡ H.opened host.old m }
@@ -250,21 +216,15 @@ fn try_rules<H: Host>(
     host: &mut H,
 ) -> CallEnd
     requires few { length plugs.old.items < 2 ^ 32 }
-    ensures ends { IsEnd (acceptance_of (λ b. kind b) (λ b e. first_fault b e) (λ b e. spec_taken b e) plugs.old.items)
-        (Some (Rules name.now)) (H.files host.old)
-        (H.read_faults host.old) (H.read_faults host.new) (H.write_faults host.old) (H.write_faults host.new)
-        (H.pushed host.old Main) (H.pushed host.new Main) result }
+    ensures ends { IsEnd (seen_as (Some (Rules name.now)) H.Host ⟦<dyn Plugin as Plugin>⟧ plugs.old plugs.new host.old host.new) result }
+    ensures pulled { Pulled (seen_as (Some (Rules name.now)) H.Host ⟦<dyn Plugin as Plugin>⟧ plugs.old plugs.new host.old host.new) }
     ensures notes { H.pushed host.new Notes ≡ H.pushed host.old Notes }
-    ensures pulled { Pulled (Some (Rules name.now)) (H.files host.old) (H.left host.old) (H.left host.new)
-        (H.read_faults host.old) (H.read_faults host.new) }
     ensures files { H.files host.new ≡ H.files host.old }
     ensures numbers { (m : ℕ) → H.given host.old m → H.given host.new m }
     ensures names { (m : ℕ) → H.given host.old m → H.opened host.new m ≡ H.opened host.old m }
     ensures reads { H.read_faults host.old ≤ H.read_faults host.new }
     ensures writes { H.write_faults host.old ≤ H.write_faults host.new }
-    ensures kept { SameKinds (λ b. kind b) (λ b e. first_fault b e) (λ b e. spec_taken b e) plugs.old.items plugs.new.items }
-    ensures boxes { IsLeftBy (λ b. kind b) (λ b. taken b) (λ b. spec_now b) (λ b e. first_fault b e) (λ b e. spec_taken b e)
-        plugs.old.items plugs.new.items (Some (Rules name.now)) (H.files host.old) result }
+    ensures kept { KeepKinds (boxes_of ⟦<dyn Plugin as Plugin>⟧ plugs.old plugs.new) }
 {
     let config = match configure(alloc, Takes::All, name, host) {
         Ok(config) => config,
@@ -284,13 +244,9 @@ fn try_rules<H: Host>(
 fn judge(alloc: Global, config: &Config, plugs: &mut Vec<Box<dyn Plugin>>) -> Result<(), CallEnd>
     requires config { IsConfig config.now }
     requires few { length plugs.old.items < 2 ^ 32 }
-    ensures accepted { IfOk result (λ u. (acceptance_of (λ b. kind b) (λ b e. first_fault b e) (λ b e. spec_taken b e) plugs.old.items).accepts config.now) }
-    ensures refused { IfErr result (λ e. IsRulesEnd (acceptance_of (λ b. kind b) (λ b e. first_fault b e) (λ b e. spec_taken b e) plugs.old.items) config.now e) }
-    ensures kept { SameKinds (λ b. kind b) (λ b e. first_fault b e) (λ b e. spec_taken b e) plugs.old.items plugs.new.items }
-    ensures took { IfOk result (λ u. HaveTakenAll (λ b. kind b) (λ b. taken b) (λ b. spec_now b) (λ b e. first_fault b e) (λ b e. spec_taken b e)
-        plugs.old.items plugs.new.items config.now) }
-    ensures left { IfErr result (λ e. IsJudgedSo (λ b. kind b) (λ b. taken b) (λ b. spec_now b) (λ b e. first_fault b e) (λ b e. spec_taken b e)
-        plugs.old.items plugs.new.items config.now e) }
+    ensures accepted { IfOk result (λ u. HaveTakenAll (boxes_of ⟦<dyn Plugin as Plugin>⟧ plugs.old plugs.new) config.now) }
+    ensures ends { IfErr result (λ e. IsJudged (boxes_of ⟦<dyn Plugin as Plugin>⟧ plugs.old plugs.new) config.now e) }
+    ensures kept { KeepKinds (boxes_of ⟦<dyn Plugin as Plugin>⟧ plugs.old plugs.new) }
 {
     match accept(alloc, config, plugs) {
         Ok(_) => Ok(()),

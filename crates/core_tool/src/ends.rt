@@ -2,7 +2,9 @@ ghost use Rattle.std.specs.Prelude.{◌≡◌, ◌≤◌, ℕ, OnOk, OnErr, code
 ghost use Rattle.core_host.specs.declared.host.Port.{Port};
 ghost use Rattle.core_host.specs.declared.host.Port.TheVariants.{Notes};
 ghost use Rattle.core_host.specs.Outside.{Rose, Appends, IsCut};
-ghost use Rattle.core_tool.specs.Lines.{image_line, joined, key_line, line_of, refusal_line, status_of, stopped_line, want_ending};
+ghost use Rattle.core_tool.specs.Lines.{image_line, key_line, refusal_line, stopped_line, want_ending};
+ghost use Rattle.core_tool.specs.Pieces.{joined};
+ghost use Rattle.core_tool.specs.Ends.{line_of, status_of};
 ghost use Rattle.core_tool.specs.RuleLines.{rule_line};
 
 use crate::Status;

@@ -3,6 +3,7 @@
 
 mod call;
 mod ends;
+mod law;
 mod lines;
 mod options;
 mod reading;
@@ -13,4 +14,7 @@ mod words;
 
 pub use call::core_main;
 pub use ends::push_rule;
+pub use law::{
+    boxes_stay, calls_are_complete, every_call_ends, faults_leave_prefixes, texts_leave_notes,
+};
 pub use status::Status;

@@ -2,7 +2,7 @@ ghost use Rattle.std.specs.Prelude.{◌≡◌, ◌≤◌, ℕ, OnOk, OnErr};
 ghost use Rattle.core_host.specs.declared.host.Port.{Port};
 ghost use Rattle.core_host.specs.declared.host.Port.TheVariants.{Notes};
 ghost use Rattle.core_host.specs.Outside.{Rose, Appends, IsCut};
-ghost use Rattle.core_tool.specs.Lines.{joined, piece_bytes};
+ghost use Rattle.core_tool.specs.Pieces.{joined, piece_bytes};
 
 use core_host::{Host, HostFailed, Port, push_all};
 use hex_text::hex_digits;

@@ -1,7 +1,7 @@
 //! The lines on configurations that break a rule of acceptance.
 
 ghost use Rattle.std.specs.Prelude.{◌≡◌, ◌++◌, codes, decimal};
-ghost use Rattle.core_tool.specs.Lines.{joined, piece_bytes};
+ghost use Rattle.core_tool.specs.Pieces.{joined, piece_bytes};
 ghost use Rattle.core_tool.specs.RuleLines.{field, key_of, line_end, number_or_dash, row_text, rule_line, service_text, stage_text};
 
 use crate::lines::Piece;

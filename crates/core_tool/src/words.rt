@@ -1,5 +1,5 @@
 ghost use Rattle.std.specs.Prelude.{◌≡◌, map, option_map, string_bytes};
-ghost use Rattle.core_tool.specs.Words.{form_of, gen_of, is_name_lem, rules_of, run_of, seen, words_of};
+ghost use Rattle.core_tool.specs.Words.{form_of, gen_of, is_file_name, rules_of, run_of, seen, words_of};
 
 use crate::options::Options;
 
@@ -87,7 +87,7 @@ impl<'a> Form<'a> {
 
 /// Whether a word is the name of a file: it is not empty and does not begin with `-`.
 fn is_name(word: &str) -> bool
-    ensures { result ≡ is_name_lem word.now }
+    ensures { result ≡ is_file_name word.now }
 {
     match word.as_bytes().first() {
         Some(&byte) => byte != b'-',

@@ -1,7 +1,7 @@
 use Rattle.std.proofs.Common.{OnOk, OnErr, sym, ap, ◌∙◌, subst}
 use Rattle.core_host.specs.declared.host.Port.TheVariants.{Notes}
 use Rattle.core_host.specs.Outside.{Appends, IsCut}
-use Rattle.core_tool.specs.Lines.{line_of}
+use Rattle.core_tool.specs.Ends.{line_of}
 use Rattle.core_tool.proofs.ends.push_line.Goals as goal
 
 pub returns-in-Stopped-clause-whole : goal.returns-in-Stopped-clause-whole

@@ -1,7 +1,7 @@
 use Rattle.std.proofs.Common.{◌≡◌, ◌≤◌, ℕ, drop}
 use Rattle.core_host.specs.declared.host.Port.{Port}
 use Rattle.core_host.specs.declared.host.Port.TheVariants.{Notes}
-use Rattle.core_tool.specs.Lines.{joined}
+use Rattle.core_tool.specs.Pieces.{joined}
 use Rattle.core_tool.proofs.Pieces.{Pushed}
 use Rattle.core_tool.proofs.lines.push_pieces.Given as goal
 

@@ -1,0 +1,8 @@
+use Rattle.core_tool.proofs.AnswerLaws.{cut_leaves, done_leaves}
+use Rattle.core_tool.proofs.law.texts_leave_notes.Goals as goal
+
+pub returns-clause-done : goal.returns-clause-done
+returns-clause-done g c = λ result seen h is. done_leaves seen result h is
+
+pub returns-clause-cut : goal.returns-clause-cut
+returns-clause-cut g c = λ seen h. cut_leaves seen h
