@@ -3,8 +3,13 @@
 
 use core_host::RealHost;
 use core_tool::{Status, core_main};
+use plug_alu::Alu;
 use plug_api::Plugin;
-use std::alloc::Global;
+use plug_decoder::Decoder;
+use plug_fetch::Fetch;
+use plug_hazard::Hazard;
+use plug_regfile::RegFile;
+use std::alloc::{AllocError, Global};
 use std::env::{self, Env};
 use std::io::{self, ErrorKind};
 use std::process::ExitCode;
@@ -12,16 +17,26 @@ use std::process::ExitCode;
 fn main(rt: HostRuntime) -> ExitCode {
     let alloc = rt.alloc();
     let status = match words(alloc, &rt) {
-        Ok(words) => {
-            let mut host = RealHost::new(alloc, rt, rt.stdout(), rt.stderr());
-            // There is no plug-in yet.
-            let mut plugs: Vec<Box<dyn Plugin>> = Vec::new(alloc);
-            core_main(alloc, &words, &mut plugs, &mut host)
-        }
+        Ok(words) => match answer(alloc, rt, &words) {
+            Ok(status) => status,
+            Err(_) => Status::NoMemory,
+        },
         Err(error) if error.kind() == ErrorKind::OutOfMemory => Status::NoMemory,
         Err(_error) => Status::ReadFault,
     };
     ExitCode::from(status.number())
+}
+
+/// One call, with a plug-in of each kind that there is.
+fn answer(alloc: Global, rt: HostRuntime, words: &Vec<String>) -> Result<Status, AllocError> {
+    let mut plugs: Vec<Box<dyn Plugin>> = Vec::new(alloc);
+    plugs.push(Box::new(alloc, Fetch::new(alloc)?)?)?;
+    plugs.push(Box::new(alloc, Decoder::new(alloc)?)?)?;
+    plugs.push(Box::new(alloc, RegFile::new(alloc)?)?)?;
+    plugs.push(Box::new(alloc, Hazard::new(alloc)?)?)?;
+    plugs.push(Box::new(alloc, Alu::new(alloc)?)?)?;
+    let mut host = RealHost::new(alloc, rt, rt.stdout(), rt.stderr());
+    Ok(core_main(alloc, words, &mut plugs, &mut host))
 }
 
 /// The words of the call, without the program's name.
