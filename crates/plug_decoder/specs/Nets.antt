@@ -9,6 +9,7 @@ use Rattle.hw_gates.specs.Places.{Is, IsIn, value_in}
 use Rattle.hw_words.specs.Gather.{or_from}
 use Rattle.isa_table.specs.declared.claim.Claim.{Claim}
 use Rattle.plug_decoder.specs.declared.circuit.Decoded.{Decoded}
+use Rattle.plug_decoder.specs.declared.circuit.Zeros.{Zeros}
 use Rattle.plug_decoder.specs.Machine.{claim_at, hit_of, masked, uses_a, uses_b, has_value}
 
 -- their widths; they are of level 1 at most
@@ -28,6 +29,17 @@ pub record AreDecodedIn (s : Scope) (p : PoolValue) (d : Decoded) : Type 0 where
   pub uses_a : IsIn s p d.uses_a
   pub uses_b : IsIn s p d.uses_b
   pub has_value : IsIn s p d.has_value
+
+-- nets of 0 with their widths, of level 1 at most
+pub record AreZeros (p : PoolValue) (z : Zeros) : Type 0 where
+  pub row : Is p z.row 7 1
+  pub unit : Is p z.unit 5 1
+  pub no_row : (env : Env) → value_in env p z.row ≡ 0
+  pub no_unit : (env : Env) → value_in env p z.unit ≡ 0
+
+pub record AreZerosIn (s : Scope) (p : PoolValue) (z : Zeros) : Type 0 where
+  pub row : IsIn s p z.row
+  pub unit : IsIn s p z.unit
 
 -- their values after n claims, on top of a first answer
 pub record Gives (old new : PoolValue) (word : Net) (rows : List Claim) (owners : List ℕ) (first d : Decoded) (n : ℕ) : Type 0 where

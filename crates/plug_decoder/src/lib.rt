@@ -15,6 +15,3 @@ pub use law::{
     lawful_claims_are_decoded,
 };
 pub use plugin::Decoder;
-
-#[cfg(test)]
-mod tests;

@@ -14,7 +14,7 @@ use plug_build::Builder;
 use plug_kit::{DecoderInputs, wire_net};
 use service_ports::DecoderPorts;
 
-/// The ports of Decoder over its input, for claims, each of an entry. A claim costs 25 nodes.
+/// The ports of Decoder over its input, for claims, each of an entry. A claim costs at most 14 nodes.
 pub(crate) fn decoder_nets(
     b: &Builder,
     pool: &mut Pool,
@@ -22,7 +22,7 @@ pub(crate) fn decoder_nets(
     rows: &[Claim],
     owners: &[u32],
 ) -> DecoderPorts
-    requires spare { 25 * length rows.now + 59 ≤ pool.old.spare }
+    requires spare { 14 * length rows.now + 23 ≤ pool.old.spare }
     requires inputs { AreInputs b.now.design b.now.entry (decoder_list w) (input_shapes Decoder) }
     requires owners { length owners.now ≡ length rows.now }
     requires numbers { (k : ℕ) → k < length rows.now → (claim_at rows.now k).row < 57 }
@@ -35,7 +35,7 @@ pub(crate) fn decoder_nets(
     ensures uses_a { (env : Env) → value_in env pool.new result.uses_a ≡ flag_of reads_a rows.now (env.wires w.word) }
     ensures uses_b { (env : Env) → value_in env pool.new result.uses_b ≡ flag_of reads_b rows.now (env.wires w.word) }
     ensures writes { (env : Env) → value_in env pool.new result.writes ≡ writes_of (env.wires w.word) (flag_of gives_value rows.now (env.wires w.word)) }
-    ensures step { Step pool.old pool.new (25 * length rows.now + 59) }
+    ensures step { Step pool.old pool.new (14 * length rows.now + 23) }
 {
     let word = wire_net(b, pool, w.word);
     let (told, writes) = decoder(pool, word, rows, owners);

@@ -41,20 +41,21 @@ fn is_register(pool: &mut Pool, r: Net) -> Net
     not(pool, none)
 }
 
-/// One bit: 1 where the stage writes the register.
+/// One bit: 1 where the stage writes the register, of which the one bit `register` says whether its number is not 0.
 #[tactic(auto, unfolding(crate::specs::Machine::hit_of))]
-fn hit(pool: &mut Pool, r: Net, stage: Stage) -> Net
-    requires spare { 6 ≤ pool.old.spare }
+fn hit(pool: &mut Pool, r: Net, register: Net, stage: Stage) -> Net
+    requires spare { 3 ≤ pool.old.spare }
     requires r { Is pool.old r 5 5 }
+    requires register { Is pool.old register 1 5 }
+    requires is_register { (env : Env) → value_in env pool.old register ≡ is_register_of (value_in env pool.old r) }
     requires stage { IsStage pool.old stage }
     ensures value { (env : Env) → value_in env pool.new result ≡ hit_of (value_in env pool.old r) (told_in env pool.old stage) }
     ensures net { Is pool.new result 1 5 }
-    ensures scope { (s : Scope) → IsIn s pool.old r → IsStageIn s pool.old stage → IsIn s pool.new result }
-    ensures step { Step pool.old pool.new 6 }
+    ensures scope { (s : Scope) → IsIn s pool.old r → IsIn s pool.old register → IsStageIn s pool.old stage → IsIn s pool.new result }
+    ensures step { Step pool.old pool.new 3 }
 {
     let same = eq(pool, stage.rd, r);
     let written = and(pool, stage.writes, same);
-    let register = is_register(pool, r);
     and(pool, written, register)
 }
 
@@ -76,17 +77,26 @@ fn missing(pool: &mut Pool, stage: Stage, bypassed: bool) -> Net
 
 /// The operand with one stage more, which is younger.
 #[tactic(auto, unfolding(crate::specs::Machine::after))]
-fn with_stage(pool: &mut Pool, r: Net, stage: Stage, bypassed: bool, below: Operand) -> Operand
-    requires spare { 9 ≤ pool.old.spare }
+fn with_stage(
+    pool: &mut Pool,
+    r: Net,
+    register: Net,
+    stage: Stage,
+    bypassed: bool,
+    below: Operand,
+) -> Operand
+    requires spare { 6 ≤ pool.old.spare }
     requires r { Is pool.old r 5 5 }
+    requires register { Is pool.old register 1 5 }
+    requires is_register { (env : Env) → value_in env pool.old register ≡ is_register_of (value_in env pool.old r) }
     requires stage { IsStage pool.old stage }
     requires below { IsOperand pool.old below }
     ensures chosen { (env : Env) → chosen_in env pool.new result ≡ after (value_in env pool.old r) bypassed (told_in env pool.old stage) (chosen_in env pool.old below) }
     ensures net { IsOperand pool.new result }
-    ensures scope { (s : Scope) → IsIn s pool.old r → IsStageIn s pool.old stage → IsOperandIn s pool.old below → IsOperandIn s pool.new result }
-    ensures step { Step pool.old pool.new 9 }
+    ensures scope { (s : Scope) → IsIn s pool.old r → IsIn s pool.old register → IsStageIn s pool.old stage → IsOperandIn s pool.old below → IsOperandIn s pool.new result }
+    ensures step { Step pool.old pool.new 6 }
 {
-    let hit = hit(pool, r, stage);
+    let hit = hit(pool, r, register, stage);
     let missing = missing(pool, stage, bypassed);
     let value = mux(pool, hit, stage.value, below.value);
     let bad = mux(pool, hit, missing, below.bad);
@@ -104,7 +114,7 @@ pub fn choose_operand(
     second: (Stage, bool),
     third: (Stage, bool),
 ) -> Operand
-    requires spare { 28 ≤ pool.old.spare }
+    requires spare { 22 ≤ pool.old.spare }
     requires r { Is pool.old r 5 5 }
     requires plain { Is pool.old plain 32 5 }
     requires first { IsStage pool.old first.0 }
@@ -116,13 +126,14 @@ pub fn choose_operand(
     ensures net { IsOperand pool.new result }
     ensures scope { (s : Scope) → IsIn s pool.old r → IsIn s pool.old plain → IsStageIn s pool.old first.0 → IsStageIn s pool.old second.0
         → IsStageIn s pool.old third.0 → IsOperandIn s pool.new result }
-    ensures step { Step pool.old pool.new 28 }
+    ensures step { Step pool.old pool.new 22 }
 {
+    let register = is_register(pool, r);
     let bad = lit(pool, 1, 0);
     let own = Operand { value: plain, bad };
-    let far = with_stage(pool, r, third.0, third.1, own);
-    let middle = with_stage(pool, r, second.0, second.1, far);
-    with_stage(pool, r, first.0, first.1, middle)
+    let far = with_stage(pool, r, register, third.0, third.1, own);
+    let middle = with_stage(pool, r, register, second.0, second.1, far);
+    with_stage(pool, r, register, first.0, first.1, middle)
 }
 
 /// One bit: 1 where an operand in use cannot be had.

@@ -13,6 +13,3 @@ mod plugin;
 pub use circuit::{Operand, Stage, choose_operand, hold};
 pub use law::{hazard_keeps_its_law, hazard_parts_meet_their_laws, operands_are_right};
 pub use plugin::Hazard;
-
-#[cfg(test)]
-mod tests;

@@ -45,7 +45,7 @@ pub(crate) fn hazard_nets(
     wire_b: u32,
     bypass: bool,
 ) -> HazardPorts
-    requires spare { 77 ≤ pool.old.spare }
+    requires spare { 65 ≤ pool.old.spare }
     requires inputs { AreInputs b.now.design b.now.entry (hazard_list w) (input_shapes Hazard) }
     requires wire_a { IsInput b.now.design b.now.entry wire_a (32, 3) }
     requires wire_b { IsInput b.now.design b.now.entry wire_b (32, 3) }
@@ -54,7 +54,7 @@ pub(crate) fn hazard_nets(
     ensures hold { (env : Env) → value_in env pool.new result.hold ≡ hold_in (λ i. bypass) (now_over w wire_a wire_b env) }
     ensures a { (env : Env) → value_in env pool.new result.a ≡ a_in (λ i. bypass) (now_over w wire_a wire_b env) }
     ensures b { (env : Env) → value_in env pool.new result.b ≡ b_in (λ i. bypass) (now_over w wire_a wire_b env) }
-    ensures step { Step pool.old pool.new 77 }
+    ensures step { Step pool.old pool.new 65 }
 {
     let first = stage_nets(b, pool, w.first);
     let second = stage_nets(b, pool, w.second);

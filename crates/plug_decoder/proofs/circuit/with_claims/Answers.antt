@@ -4,10 +4,11 @@ use Rattle.hw_pool.specs.Meaning.{Env}
 use Rattle.hw_gates.proofs.Steps.{◌▸◌, kept, stays, stays_in, step_as}
 use Rattle.plug_decoder.specs.Machine.{claim_at, hit_of, masked, uses_a, uses_b, has_value}
 use Rattle.plug_decoder.proofs.Claims.{none_yet, or_more}
+use Rattle.plug_decoder.proofs.More.{zeros_stay, zeros_stay_in}
 use Rattle.plug_decoder.proofs.circuit.with_claims.Goals as goal
 
 pub loop-k-init : goal.loop-k-init
-loop-k-init c = none_yet _ _ _ _ _ c.requires.nets c.requires.word
+loop-k-init c = none_yet _ _ _ _ _ _ c.requires.nets c.requires.word c.requires.zeros
 
 pub loop-k-preserved : goal.loop-k-preserved
 loop-k-preserved c =
@@ -24,7 +25,8 @@ loop-k-preserved c =
         has_value = λ env. one.has_value env ∙ or_more _ _ _ _ (λ (w k : ℕ). masked w (claim_at c.args.rows.now k) (one_if (has_value (claim_at c.args.rows.now k).row))) c.loop-k.k (so_far.gives.has_value env) (still env);
       };
       nets = one.nets;
-      scope = λ s h k. one.scope s (stays_in s _ _ _ c.args.word so_far.step c.requires.word.0 h) (so_far.scope s h k);
+      scope = λ s h z k. one.scope s (stays_in s _ _ _ c.args.word so_far.step c.requires.word.0 h) (zeros_stay_in _ _ _ so_far.step _ c.requires.zeros s z) (so_far.scope s h z k);
       word_is = stays _ _ _ _ _ _ one.step so_far.word_is;
+      zeros_are = zeros_stay _ _ _ one.step _ so_far.zeros_are;
       step = step_as _ _ _ _ (omega arith) (so_far.step ▸ one.step);
     }

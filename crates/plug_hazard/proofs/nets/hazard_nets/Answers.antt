@@ -36,16 +36,16 @@ module _ (c : goal.After-result-5-1) where
   from_first : Step c.stage_nets-first.new.pool c.wire_net-plain_b.new.pool 14
   from_first = c.stage_nets-second.ensures.step ▸ from_second
 
-  left : Step c.wire_net-plain_b.new.pool c.choose_operand-left.new.pool 28
+  left : Step c.wire_net-plain_b.new.pool c.choose_operand-left.new.pool 22
   left = c.choose_operand-left.ensures.step
 
-  right : Step c.choose_operand-left.new.pool c.choose_operand-right.new.pool 28
+  right : Step c.choose_operand-left.new.pool c.choose_operand-right.new.pool 22
   right = c.choose_operand-right.ensures.step
 
   last : Step c.choose_operand-right.new.pool c.hold-hold.new.pool 3
   last = c.hold-hold.ensures.step
 
-  both : Step c.wire_net-plain_b.new.pool c.choose_operand-right.new.pool 56
+  both : Step c.wire_net-plain_b.new.pool c.choose_operand-right.new.pool 44
   both = left ▸ right
 
   -- what the operands are

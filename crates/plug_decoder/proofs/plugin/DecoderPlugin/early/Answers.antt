@@ -40,7 +40,7 @@ owners-are : (c : goal.After-offer_decoder) → c.as_slice-owners.result.now ≡
 owners-are c = c.as_slice-owners.ensures.value ∙ c.items-2.ensures
 
 -- what was built
-plain : (c : goal.After-offer_decoder) → IsPlain Decoder c.args.b.now.entry (25 * length c.as_slice-rows.result.now + 59) (old-world c) (new-world c) (decoder_list c.decoder_inputs-inputs.result) (decoder_ports c.decoder_nets-ports.result)
+plain : (c : goal.After-offer_decoder) → IsPlain Decoder c.args.b.now.entry (14 * length c.as_slice-rows.result.now + 23) (old-world c) (new-world c) (decoder_list c.decoder_inputs-inputs.result) (decoder_ports c.decoder_nets-ports.result)
 plain c =
     let by : c.entry.result ≡ c.args.b.now.entry = c.entry.ensures ∙ c.decoder_inputs-inputs.ensures.entry in
     let p = decoder_ports c.decoder_nets-ports.result in

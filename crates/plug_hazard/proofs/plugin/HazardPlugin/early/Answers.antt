@@ -138,7 +138,7 @@ returns-clause-fits c =
     let e = c.args.b.now.entry in
     let p = hazard_ports c.hazard_nets-ports.result in
     let q = c.hazard_nets-ports.new.pool in
-    single_fits Hazard e 77 18 (old-world c) (new-world c) p c.requires.fits (adds_of _ _ 77 c.hazard_nets-ports.ensures.step) (makes c no-rights).grows
+    single_fits Hazard e 65 18 (old-world c) (new-world c) p c.requires.fits (adds_of _ _ 65 c.hazard_nets-ports.ensures.step) (makes c no-rights).grows
     (λ h. (inputs c).drivers q (c.wire-wire_b.ensures.drivers q (c.wire-wire_a.ensures.drivers q h)))
     (offered c)
     (subst (λ (x : ℕ). single c.offer_hazard.new.self Hazard ≡ Some (record { by = x; ports = p })) (by c) c.offer_hazard.ensures.single)
@@ -148,7 +148,7 @@ returns-clause-fits c =
     (behind_old _ _ _ _ _ _ _ _ (one c) (two c) (inputs c)))
 
 pub returns-clause-adds : goal.returns-clause-adds
-returns-clause-adds c = builds_of _ _ _ 77 18 (old-world c) (new-world c) (adds_of _ _ 77 c.hazard_nets-ports.ensures.step) (makes c _) (omega arith)
+returns-clause-adds c = builds_of _ _ _ 65 18 (old-world c) (new-world c) (adds_of _ _ 65 c.hazard_nets-ports.ensures.step) (makes c _) (omega arith)
 
 pub returns-clause-open : goal.returns-clause-open
 returns-clause-open c = among_open _ _ _ _ _ _ _ _ (among c)
