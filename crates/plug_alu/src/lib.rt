@@ -12,6 +12,3 @@ mod plugin;
 pub use circuit::alu;
 pub use law::{alu_is_right, alu_keeps_its_law, alu_parts_meet_their_laws};
 pub use plugin::Alu;
-
-#[cfg(test)]
-mod tests;

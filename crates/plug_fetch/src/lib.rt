@@ -30,9 +30,6 @@ ghost use Rattle.plug_fetch.specs.Runs.{HasRuns, IsFetch, Shows};
 
 pub use plugin::Fetch;
 
-#[cfg(test)]
-mod tests;
-
 /// In each run of the equations, over any memory, the part keeps the law of Fetch with a latency of 8 + 4 w cycles on a bus that
 /// answers within w, and the law of its depth, with Predict and without, for each depth of at least 1. This does nothing:
 /// its contract is the laws.

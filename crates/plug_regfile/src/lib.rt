@@ -9,6 +9,3 @@ mod plugin;
 
 pub use law::regfile_parts_meet_their_laws;
 pub use plugin::RegFile;
-
-#[cfg(test)]
-mod tests;

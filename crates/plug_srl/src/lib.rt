@@ -7,6 +7,3 @@
 mod plugin;
 
 pub use plugin::Srl;
-
-#[cfg(test)]
-mod tests;
