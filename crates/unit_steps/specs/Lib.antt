@@ -1,0 +1,4 @@
+pub mod Cycles
+pub mod Signals
+pub mod Registers
+pub mod Parts
