@@ -1,0 +1,3 @@
+pub mod Unroll
+pub mod Ends
+pub mod Parts
