@@ -1,0 +1,4 @@
+pub mod Flows
+pub mod Rows
+pub mod Keeps
+pub mod Parts

@@ -1,0 +1,4 @@
+pub mod Formula
+pub mod Machine
+pub mod Params
+pub mod Builds
