@@ -1,0 +1,5 @@
+pub mod Machine
+pub mod Nets
+pub mod Builds
+pub mod Registers
+pub mod Built
