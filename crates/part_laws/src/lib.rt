@@ -1,7 +1,7 @@
 //! Parts that meet their laws in all their runs keep them in each run of the whole, which then follows the machine.
 //!
-//! The crate holds definitions and laws alone. It speaks of no module and no text: a run is numbers for all things of all
-//! parts, of which each part's own are as it drives them.
+//! The crate holds definitions and laws alone. Its laws speak of no module and no text: a run is numbers for all things of all
+//! parts, of which each part's own are as it drives them. Definitions beside them say what a run of a module out of reset is.
 #![tactic(auto)]
 
 ghost use Rattle.part_laws.specs.Follow.{JoinedFollows, LawsOfRun};

@@ -1,3 +1,4 @@
+-- What entries leave to the pipeline, and what is laid down of it.
 use Rattle.std.specs.Prelude.{◌≡◌, ℕ, ◌<◌, Bool, true, false, List, get_or, is_some, All, None, Some}
 use Rattle.hw_pool.specs.Nodes.{PoolValue}
 use Rattle.hw_expr.specs.declared.net.Net.{Net}
@@ -12,9 +13,11 @@ use Rattle.part_laws.specs.Registered.{entry_of, execs_of}
 use Rattle.pipe_drive.specs.Rights.{AreDone}
 use Rattle.pipe_build.specs.declared.nets.Offers.{Offers}
 
+-- a world of a pool, a module and a registry
 abbrev pub world_with : PoolValue → ModuleValue → RegistryValue → World
 world_with pool design reg = record { pool = pool; design = design; reg = reg }
 
+-- what is laid down of the pipeline; `commits` says of each entry whether it works in the stage that commits
 abbrev pub shape_by : (stages reset_pc : ℕ) (commits : List Bool) → RegistryValue → Shape
 shape_by stages reset_pc commits reg = record {
   entries = execs_of reg;
