@@ -5,10 +5,14 @@ use core_host::RealHost;
 use core_tool::{Status, core_main};
 use plug_alu::Alu;
 use plug_api::Plugin;
+use plug_branch::Branch;
 use plug_decoder::Decoder;
 use plug_fetch::Fetch;
 use plug_hazard::Hazard;
+use plug_muldiv::Muldiv;
+use plug_predict::Predict;
 use plug_regfile::RegFile;
+use plug_shift::{ShiftBarrel, ShiftLight};
 use std::alloc::{AllocError, Global};
 use std::env::{self, Env};
 use std::io::{self, ErrorKind};
@@ -35,6 +39,11 @@ fn answer(alloc: Global, rt: HostRuntime, words: &Vec<String>) -> Result<Status,
     plugs.push(Box::new(alloc, RegFile::new(alloc)?)?)?;
     plugs.push(Box::new(alloc, Hazard::new(alloc)?)?)?;
     plugs.push(Box::new(alloc, Alu::new(alloc)?)?)?;
+    plugs.push(Box::new(alloc, Branch::new(alloc)?)?)?;
+    plugs.push(Box::new(alloc, Predict::new(alloc)?)?)?;
+    plugs.push(Box::new(alloc, ShiftLight::new(alloc)?)?)?;
+    plugs.push(Box::new(alloc, ShiftBarrel::new(alloc)?)?)?;
+    plugs.push(Box::new(alloc, Muldiv::new(alloc)?)?)?;
     let mut host = RealHost::new(alloc, rt, rt.stdout(), rt.stderr());
     Ok(core_main(alloc, words, &mut plugs, &mut host))
 }

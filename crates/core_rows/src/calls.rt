@@ -1,6 +1,6 @@
-use crate::hosts::{host, words};
+use crate::hosts::{config, end_of, host, words};
 use core_host::{MemHost, Port};
-use core_tool::{Status, core_main};
+use core_tool::Status;
 use std::alloc::{AllocError, Global};
 use std::test::Fail;
 
@@ -23,10 +23,28 @@ R pc=00001008 word=002081b3 x3=00000011
 T pc=0000100c word=00000000 cause=00000002
 ";
 
-/// The configuration of most rows.
-const PLAIN: &str = "reset_pc = 0x80000000";
+/// The smallest core.
+const SMALL: &str = "isa = 'claimed'
+plugin = [{ kind = 'fetch' }, { kind = 'decoder' }, { kind = 'regfile' }, { kind = 'hazard' }, { kind = 'alu' }]
+";
 
-/// How a call without plug-ins ended, and its host.
+/// The same where an operand waits for its register.
+const WAITING: &str = "isa = 'claimed'
+plugin = [{ kind = 'fetch' }, { kind = 'decoder' }, { kind = 'regfile' }, { kind = 'hazard', bypass = false }, { kind = 'alu' }]
+";
+
+/// The same with four words fetched ahead.
+const DEEP: &str = "isa = 'claimed'
+plugin = [{ kind = 'fetch', depth = 4 }, { kind = 'decoder' }, { kind = 'regfile' }, { kind = 'hazard' }, { kind = 'alu' }]
+";
+
+/// No entry.
+const NONE: &str = "";
+
+/// The line on a configuration with no entry.
+const NO_FETCH: &str = "rules 4 service=fetch by=-\n";
+
+/// How a call ended, and its host.
 #[derive(Drop)]
 struct Answer {
     status: Status,
@@ -43,14 +61,14 @@ impl Answer {
 }
 
 /// Calls with these words.
-fn call_words(alloc: Global, words: &Vec<String>, mut host: MemHost) -> Answer {
-    let status = core_main(alloc, words, &mut Vec::new(alloc), &mut host);
-    Answer { status, host }
+fn call_words(alloc: Global, words: &Vec<String>, mut host: MemHost) -> Result<Answer, AllocError> {
+    let status = end_of(alloc, words, &mut host)?;
+    Ok(Answer { status, host })
 }
 
 /// Calls with words that stand in a row with a space between any two.
 fn call(alloc: Global, text: &str, host: MemHost) -> Result<Answer, AllocError> {
-    Ok(call_words(alloc, &words(alloc, text)?, host))
+    call_words(alloc, &words(alloc, text)?, host)
 }
 
 /// The call `gen c`, with these bytes as the configuration.
@@ -78,10 +96,6 @@ const REFUSED: &[(&str, &str)] = &[
         "config shape key=memory.top want=nokey\n",
     ),
     ("plugin = 1", "config shape key=plugin want=tables\n"),
-    (
-        "[[plugin]]\nkind = \"alu\"",
-        "config shape key=plugin want=nokey\n",
-    ),
     (
         "[[plugin]]\nkind = \"ALU\"",
         "config range key=plugin.0.kind\n",
@@ -130,38 +144,62 @@ const USAGE: &[&str] = &[
     "run --trace c i",
 ];
 
-/// Calls: the words, the configuration, the status, and what is pushed on the two ports.
-const CALLS: &[(&str, &str, Status, &str, &str)] = &[
+/// A call: the words, the configuration as the entries of a core and other lines, the status, and what is pushed on the two ports.
+type Row = (
+    &'static str,
+    &'static str,
+    &'static str,
+    Status,
+    &'static str,
+    &'static str,
+);
+
+const CALLS: &[Row] = &[
+    ("rules c", NONE, "", Status::RulesRefused, "", NO_FETCH),
     (
-        "rules c",
-        "",
+        "gen c",
+        NONE,
+        "reset_pc = 0x80000000",
         Status::RulesRefused,
         "",
-        "rules 4 service=fetch by=-\n",
+        NO_FETCH,
+    ),
+    ("run c d", NONE, "", Status::RulesRefused, "", NO_FETCH),
+    (
+        "rules c",
+        NONE,
+        "isa = 'rv32im'",
+        Status::RulesRefused,
+        "",
+        NO_FETCH,
     ),
     (
         "rules c",
-        "isa = \"rv32im\"",
+        NONE,
+        "[[plugin]]\nkind = 'dbus'",
         Status::RulesRefused,
         "",
-        "rules 4 service=fetch by=-\n",
+        "rules 1 entry=0\n",
     ),
     (
-        "rules c",
-        "[[plugin]]\nkind = \"alu\"\ndepth = 1",
+        "run c d",
+        NONE,
+        "[[plugin]]\nkind = 'dbus'",
         Status::RulesRefused,
         "",
         "rules 1 entry=0\n",
     ),
     (
         "rules c",
-        "[[plugin]]\nkind = \"ALU\"",
+        NONE,
+        "[[plugin]]\nkind = 'ALU'",
         Status::ConfigRefused,
         "",
         "config range key=plugin.0.kind\n",
     ),
     (
         "rules c",
+        NONE,
         "plugin = 1",
         Status::ConfigRefused,
         "",
@@ -169,18 +207,28 @@ const CALLS: &[(&str, &str, Status, &str, &str)] = &[
     ),
     (
         "rules c",
+        NONE,
         "stages = 5",
         Status::ConfigRefused,
         "",
         "config range key=stages\n",
     ),
-    ("rules d", "", Status::ReadFault, "", "read fault\n"),
-    ("gen d", "", Status::ReadFault, "", "read fault\n"),
-    ("run c d", PLAIN, Status::ReadFault, "", "read fault\n"),
-    ("run d i", PLAIN, Status::ReadFault, "", "read fault\n"),
-    ("run i d", PLAIN, Status::ConfigRefused, "", "config text\n"),
+    ("rules c", SMALL, "", Status::Done, "accepted\n", ""),
+    ("rules d", NONE, "", Status::ReadFault, "", "read fault\n"),
+    ("gen d", SMALL, "", Status::ReadFault, "", "read fault\n"),
+    ("run c d", SMALL, "", Status::ReadFault, "", "read fault\n"),
+    ("run d i", SMALL, "", Status::ReadFault, "", "read fault\n"),
+    (
+        "run i d",
+        SMALL,
+        "",
+        Status::ConfigRefused,
+        "",
+        "config text\n",
+    ),
     (
         "run c i",
+        SMALL,
         "memory = { base = 4096, size = 8 }",
         Status::ImageRefused,
         "",
@@ -188,6 +236,7 @@ const CALLS: &[(&str, &str, Status, &str, &str)] = &[
     ),
     (
         "run c i",
+        SMALL,
         "memory = { base = 4294967288, size = 8 }",
         Status::ImageRefused,
         "",
@@ -195,66 +244,131 @@ const CALLS: &[(&str, &str, Status, &str, &str)] = &[
     ),
     (
         "run c i --trace",
-        PLAIN,
+        SMALL,
+        "stages = 2",
         Status::Stopped,
         LINES,
-        "stopped cause=00000002 pc=8000000c events=4 cycles=9\n",
+        "stopped cause=00000002 pc=8000000c events=4 cycles=15\n",
     ),
     (
-        "run c i --trace --wait 1",
-        PLAIN,
+        "run c i --trace",
+        SMALL,
+        "stages = 3",
+        Status::Stopped,
+        LINES,
+        "stopped cause=00000002 pc=8000000c events=4 cycles=15\n",
+    ),
+    (
+        "run c i --trace",
+        SMALL,
+        "stages = 4",
+        Status::Stopped,
+        LINES,
+        "stopped cause=00000002 pc=8000000c events=4 cycles=15\n",
+    ),
+    (
+        "run c i --trace --wait 3",
+        SMALL,
+        "",
+        Status::Stopped,
+        LINES,
+        "stopped cause=00000002 pc=8000000c events=4 cycles=39\n",
+    ),
+    (
+        "run c i --trace",
+        WAITING,
+        "stages = 4",
         Status::Stopped,
         LINES,
         "stopped cause=00000002 pc=8000000c events=4 cycles=17\n",
     ),
     (
-        "run c i --wait 1000 --trace",
-        PLAIN,
+        "run c i --trace",
+        WAITING,
+        "stages = 3",
         Status::Stopped,
         LINES,
-        "stopped cause=00000002 pc=8000000c events=4 cycles=8009\n",
+        "stopped cause=00000002 pc=8000000c events=4 cycles=15\n",
+    ),
+    (
+        "run c i --trace",
+        WAITING,
+        "stages = 2",
+        Status::Stopped,
+        LINES,
+        "stopped cause=00000002 pc=8000000c events=4 cycles=15\n",
+    ),
+    (
+        "run c i --trace",
+        DEEP,
+        "",
+        Status::Stopped,
+        LINES,
+        "stopped cause=00000002 pc=8000000c events=4 cycles=12\n",
+    ),
+    (
+        "run c i --wait 3 --trace",
+        DEEP,
+        "",
+        Status::Stopped,
+        LINES,
+        "stopped cause=00000002 pc=8000000c events=4 cycles=36\n",
     ),
     (
         "run c i --cycles 100000000 --trace --wait 0",
-        PLAIN,
+        SMALL,
+        "",
         Status::Stopped,
         LINES,
-        "stopped cause=00000002 pc=8000000c events=4 cycles=9\n",
+        "stopped cause=00000002 pc=8000000c events=4 cycles=15\n",
     ),
     (
         "run c i",
-        PLAIN,
+        SMALL,
+        "",
         Status::Stopped,
         "",
-        "stopped cause=00000002 pc=8000000c events=4 cycles=9\n",
+        "stopped cause=00000002 pc=8000000c events=4 cycles=15\n",
     ),
     (
         "run c i --cycles 1",
-        PLAIN,
+        SMALL,
+        "",
         Status::CyclesEnded,
         "",
         "cycles 1 events=0\n",
     ),
     (
         "run c i --cycles 0000000001",
-        PLAIN,
+        SMALL,
+        "",
         Status::CyclesEnded,
         "",
         "cycles 1 events=0\n",
     ),
     (
         "run c i --trace --cycles 1",
-        PLAIN,
+        SMALL,
+        "",
         Status::CyclesEnded,
         "",
         "cycles 1 events=0\n",
     ),
     (
         "run c i --trace",
+        SMALL,
         "reset_pc = 4096\nstages = 2\nmemory = { base = 4096, size = 16 }",
         Status::Stopped,
         LOW_LINES,
-        "stopped cause=00000002 pc=0000100c events=4 cycles=9\n",
+        "stopped cause=00000002 pc=0000100c events=4 cycles=15\n",
+    ),
+    (
+        "run c i --trace",
+        SMALL,
+        "reset_pc = 0",
+        Status::Stopped,
+        "T pc=00000000 word=00000000 cause=00000001\n",
+        "stopped cause=00000001 pc=00000000 events=1 cycles=6\n",
     ),
 ];
 
@@ -271,7 +385,7 @@ fn each_refusal_has_its_line(rt: HostRuntime) -> Result<(), Fail> {
 #[test]
 fn other_words_are_no_call(rt: HostRuntime) -> Result<(), Fail> {
     let alloc = rt.alloc();
-    let none = call_words(alloc, &Vec::new(alloc), host(alloc, &[], &[], &[], 0)?);
+    let none = call_words(alloc, &Vec::new(alloc), host(alloc, &[], &[], &[], 0)?)?;
     assert!(rt; none.is(Status::Usage, "", "usage\n"), "no words");
     for text in USAGE {
         let answer = call(alloc, *text, host(alloc, &[], &[], &[], 0)?)?;
@@ -284,31 +398,45 @@ fn other_words_are_no_call(rt: HostRuntime) -> Result<(), Fail> {
 #[test]
 fn each_call_has_its_end(rt: HostRuntime) -> Result<(), Fail> {
     let alloc = rt.alloc();
-    for (text, config, status, main, notes) in CALLS {
+    for (text, core, lines, status, main, notes) in CALLS {
+        let config = config(alloc, *core, *lines)?;
         for bite in [0, 1] {
-            let answer = call(
-                alloc,
-                *text,
-                host(alloc, config.as_bytes(), &IMAGE, &[], bite)?,
-            )?;
+            let host = host(alloc, config.as_str().as_bytes(), &IMAGE, &[], bite)?;
+            let answer = call(alloc, *text, host)?;
             assert!(rt; answer.is(*status, *main, *notes), "{text}");
         }
     }
     Ok(())
 }
 
-/// The text of a core with the reset pc of most rows.
-fn core_text(alloc: Global) -> Result<Answer, AllocError> {
-    generate(alloc, PLAIN.as_bytes(), &[], 0)
+#[test]
+fn an_empty_image_stops_at_once(rt: HostRuntime) -> Result<(), Fail> {
+    let alloc = rt.alloc();
+    let config = config(alloc, SMALL, "memory.size = 4")?;
+    let host = host(alloc, config.as_str().as_bytes(), &[], &[], 0)?;
+    let answer = call(alloc, "run c i --trace", host)?;
+    assert!(rt;
+        answer.is(
+            Status::Stopped,
+            "T pc=80000000 word=00000000 cause=00000002\n",
+            "stopped cause=00000002 pc=80000000 events=1 cycles=6\n",
+        )
+    );
+    Ok(())
 }
 
-/// Whether the text of that core is written whole, and no line.
+/// The text of the smallest core.
+fn core_text(alloc: Global) -> Result<Answer, AllocError> {
+    generate(alloc, SMALL.as_bytes(), &[], 0)
+}
+
+/// Whether the text of a core is written whole, and no line.
 fn is_core(answer: &Answer) -> bool {
     let core = answer.host.pushed(Port::Main).as_slice();
     answer.status == Status::Done
         && answer.host.pushed(Port::Notes).is_empty()
         && core.starts_with(b"module core(".as_slice())
-        && core.ends_with(b"pc <= 32'h80000000; else pc <= pc_next;\nendmodule\n".as_slice())
+        && core.ends_with(b"\nendmodule\n".as_slice())
 }
 
 #[test]
@@ -318,29 +446,30 @@ fn a_core_is_written_whole(rt: HostRuntime) -> Result<(), Fail> {
     Ok(())
 }
 
-/// One call of the host finds the file of a configuration, two read it, and three write the text of a core: the call that
+/// One call of the host finds the file of a configuration, two read it, and one writes the text of a core: the call that
 /// fails, the status, and the line.
 const FAILED: &[(u32, Status, &str)] = &[
     (1, Status::ReadFault, "read fault\n"),
     (2, Status::ReadFault, "read fault\n"),
     (3, Status::ReadFault, "read fault\n"),
     (4, Status::WriteFault, ""),
-    (5, Status::WriteFault, ""),
-    (6, Status::WriteFault, ""),
-    (7, Status::Done, ""),
+    (5, Status::Done, ""),
     (12, Status::Done, ""),
 ];
 
-/// Whether a call ended so with this line, and the text as it is where this call of the host fails: none before the fifth,
-/// and whole behind the sixth.
-fn is_cut(core: &Vec<u8>, answer: &Answer, call: u32, status: Status, line: &str) -> bool {
+/// Whether a call ended so with this line, and the text is whole where it is done, and else not begun.
+fn is_cut(core: &Vec<u8>, answer: &Answer, status: Status, line: &str) -> bool {
     let text = answer.host.pushed(Port::Main);
     let notes = answer.host.pushed(Port::Notes).as_slice();
+    let whole = if status == Status::Done {
+        core.len()
+    } else {
+        0
+    };
     answer.status == status
         && notes == line.as_bytes()
         && core.as_slice().starts_with(text.as_slice())
-        && text.is_empty() == (call < 5)
-        && (text.len() == core.len()) == (call > 6)
+        && text.len() == whole
 }
 
 #[test]
@@ -349,8 +478,8 @@ fn a_failed_call_cuts_the_output_off(rt: HostRuntime) -> Result<(), Fail> {
     let whole = core_text(alloc)?;
     let core = whole.host.pushed(Port::Main);
     for (call, status, line) in FAILED {
-        let answer = generate(alloc, PLAIN.as_bytes(), &[*call], 0)?;
-        assert!(rt; is_cut(core, &answer, *call, *status, *line), "{call}");
+        let answer = generate(alloc, SMALL.as_bytes(), &[*call], 0)?;
+        assert!(rt; is_cut(core, &answer, *status, *line), "{call}");
     }
     Ok(())
 }
@@ -364,12 +493,12 @@ fn is_cut_at_200(core: &Vec<u8>, answer: &Answer) -> bool {
         && answer.host.pushed(Port::Notes).is_empty()
 }
 
-/// The third push of 100 bytes fails.
+/// One call finds the configuration and three read it; the third push of 100 bytes fails.
 #[test]
 fn two_pushes_are_whole(rt: HostRuntime) -> Result<(), Fail> {
     let alloc = rt.alloc();
     let whole = core_text(alloc)?;
-    let cut = generate(alloc, PLAIN.as_bytes(), &[6], 100)?;
+    let cut = generate(alloc, SMALL.as_bytes(), &[7], 100)?;
     assert!(rt; is_cut_at_200(whole.host.pushed(Port::Main), &cut));
     Ok(())
 }
@@ -409,7 +538,7 @@ fn are_cut_lines(answer: &Answer) -> bool {
 fn a_failed_push_cuts_the_events_off(rt: HostRuntime) -> Result<(), Fail> {
     let alloc = rt.alloc();
     for fails in [7, 8, 9] {
-        let host = host(alloc, PLAIN.as_bytes(), &IMAGE, &[fails], 0)?;
+        let host = host(alloc, SMALL.as_bytes(), &IMAGE, &[fails], 0)?;
         let answer = call(alloc, "run c i --trace", host)?;
         assert!(rt; are_cut_lines(&answer), "{fails}");
     }
@@ -421,7 +550,7 @@ fn long_configurations_are_refused(rt: HostRuntime) -> Result<(), Fail> {
     let alloc = rt.alloc();
     let mut comment = vec![in alloc; b'#'; 1_048_576]?;
     let whole = generate(alloc, &comment, &[], 0)?;
-    assert_eq!(rt; whole.status, Status::Done);
+    assert!(rt; whole.is(Status::RulesRefused, "", NO_FETCH));
     comment.push(b'#')?;
     let long = generate(alloc, &comment, &[], 0)?;
     assert!(rt; long.is(Status::ConfigRefused, "", "config long\n"));
@@ -433,7 +562,7 @@ fn long_images_are_refused(rt: HostRuntime) -> Result<(), Fail> {
     let alloc = rt.alloc();
     let image = vec![in alloc; 0u8; 65_537]?;
     for bite in [0, 1] {
-        let host = host(alloc, PLAIN.as_bytes(), &image, &[], bite)?;
+        let host = host(alloc, SMALL.as_bytes(), &image, &[], bite)?;
         let answer = call(alloc, "run c i --trace", host)?;
         assert!(rt; answer.is(Status::ImageRefused, "", "image outside addr=80010000\n"));
     }

@@ -1,4 +1,16 @@
 use core_host::{List, MemFile, MemHost, Name};
+use core_tool::{Status, core_main};
+use plug_alu::Alu;
+use plug_api::Plugin;
+use plug_branch::Branch;
+use plug_decoder::Decoder;
+use plug_fetch::Fetch;
+use plug_hazard::Hazard;
+use plug_muldiv::Muldiv;
+use plug_predict::Predict;
+use plug_regfile::RegFile;
+use plug_shift::{ShiftBarrel, ShiftLight};
+use plug_srl::Srl;
 use std::alloc::{AllocError, Global};
 
 /// The room of each port, in bytes.
@@ -32,4 +44,32 @@ pub fn words(alloc: Global, text: &str) -> Result<Vec<String>, AllocError> {
         words.push(String::from_str(alloc, word)?)?;
     }
     Ok(words)
+}
+
+/// The end of the call with these words, with a plug-in of each kind that there is, and the one for SRL alone.
+pub fn end_of(
+    alloc: Global,
+    words: &Vec<String>,
+    host: &mut MemHost,
+) -> Result<Status, AllocError> {
+    let mut plugs: Vec<Box<dyn Plugin>> = Vec::new(alloc);
+    plugs.push(Box::new(alloc, Fetch::new(alloc)?)?)?;
+    plugs.push(Box::new(alloc, Decoder::new(alloc)?)?)?;
+    plugs.push(Box::new(alloc, RegFile::new(alloc)?)?)?;
+    plugs.push(Box::new(alloc, Hazard::new(alloc)?)?)?;
+    plugs.push(Box::new(alloc, Alu::new(alloc)?)?)?;
+    plugs.push(Box::new(alloc, Branch::new(alloc)?)?)?;
+    plugs.push(Box::new(alloc, Predict::new(alloc)?)?)?;
+    plugs.push(Box::new(alloc, ShiftLight::new(alloc)?)?)?;
+    plugs.push(Box::new(alloc, ShiftBarrel::new(alloc)?)?)?;
+    plugs.push(Box::new(alloc, Muldiv::new(alloc)?)?)?;
+    plugs.push(Box::new(alloc, Srl::new(alloc)?)?)?;
+    Ok(core_main(alloc, words, &mut plugs, host))
+}
+
+/// The text of a configuration: the entries of a core, and then other lines.
+pub fn config(alloc: Global, core: &str, lines: &str) -> Result<String, AllocError> {
+    let mut text = String::from_str(alloc, core)?;
+    text.push_str(lines)?;
+    Ok(text)
 }

@@ -5,3 +5,9 @@
 mod calls;
 #[cfg(test)]
 mod hosts;
+#[cfg(test)]
+mod jumps;
+#[cfg(test)]
+mod runs;
+#[cfg(test)]
+mod units;

@@ -1,20 +1,15 @@
 -- The parts of a call, from what was read and pulled.
-use Rattle.std.proofs.Common.{◌≡◌, ◌≤◌, ◌<◌, ◌+◌, ◌⊎◌, inl, inr, ◌++◌, ℕ, eqb, nat_lt, List, [], ◌∷◌, length, Option, Some, None, Result, Ok, Err, true, false, codes, refl, sym, ap, ◌∙◌, subst, append-nil, arith, length-append}
-use Rattle.std.proofs.lemmas.Bool.{cases_lt, lt-ltb, eqb-true}
+use Rattle.std.proofs.Common.{◌≡◌, ◌≤◌, ◌<◌, ◌+◌, ◌⊎◌, inl, inr, ◌++◌, ℕ, nat_lt, List, length, Option, Some, None, Result, Ok, Err, false, refl, sym, ap, ◌∙◌, subst, append-nil, arith, length-append}
+use Rattle.std.proofs.lemmas.Bool.{cases_lt, lt-ltb}
 use Rattle.std.proofs.lemmas.Bool.Decides.{nat_tests}
 use Rattle.core_host.specs.Outside.{Files, Rose, IsRead, PulledAtMost, held}
 use Rattle.stage_map.specs.declared.config.MemShape.{MemShape}
 use Rattle.stage_map.specs.declared.config.Config.{Config}
 use Rattle.core_config.specs.declared.refusal.ConfigRefusal.{ConfigRefusal}
-use Rattle.core_config.specs.declared.refusal.ConfigRefusal.TheVariants.{NoMemory, Shape, TooLong as TooLongConfig}
-use Rattle.core_config.specs.declared.refusal.Want.TheVariants.{NoKey}
-use Rattle.stage_map.specs.declared.config.PlugEntry.{PlugEntry}
-use Rattle.core_config.specs.Config.{IsAnswer, config_of, of_text, then_read}
+use Rattle.core_config.specs.declared.refusal.ConfigRefusal.TheVariants.{NoMemory, TooLong as TooLongConfig}
+use Rattle.core_config.specs.Config.{IsAnswer, config_of}
 use Rattle.core_tool.specs.declared.ends.ImageFault.{ImageFault}
 use Rattle.core_tool.specs.declared.ends.ImageFault.TheVariants.{TooLong, Outside}
-use Rattle.core_tool.specs.Reading.{fixed_config_of, fixed_of, said_to, unless_entries}
-use Rattle.core_tool.specs.declared.reading.Takes.{Takes}
-use Rattle.core_tool.specs.declared.reading.Takes.TheVariants.{NoEntry, All}
 use Rattle.core_tool.specs.Lines.{refusal_line}
 use Rattle.core_tool.specs.Files.{IsFile, PulledUnlessFault, image_fault}
 use Rattle.core_tool.specs.Parts.{ForBytes, IsRefusedWith}
@@ -30,43 +25,9 @@ answer_refused p refusal other (inr h) = absurd (other cc)
 
 -- ---- the configuration
 
-pub fixed_refused : (bytes : List ℕ) (refusal : ConfigRefusal) → IsAnswer (Err refusal) (config_of bytes) → IsAnswer (Err refusal) (fixed_config_of bytes)
-unfolding fixed_config_of
-fixed_refused bytes refusal (inl h) = inl (ap (λ p. then_read p fixed_of) h)
-fixed_refused bytes refusal (inr h) = inr h
-
--- what is read of a configuration that was read
-fixed_read : (bytes : List ℕ) (c : Config) → IsAnswer (Ok c) (config_of bytes) → fixed_config_of bytes ≡ unless_entries c.entries c
-unfolding fixed_config_of
-fixed_read bytes c h = ap (λ p. then_read p fixed_of) (answer_ok (config_of bytes) c h)
-
-no_entries : (entries : List PlugEntry) (c : Config) → eqb (length entries) 0 ≡ true → unless_entries entries c ≡ Ok c
-no_entries [] c h = refl
-no_entries (entry ∷ entries) c h = absurd (omega (arith, eqb-true (length (entry ∷ entries)) 0 h))
-
-some_entries : (entries : List PlugEntry) (c : Config) → eqb (length entries) 0 ≡ false → unless_entries entries c ≡ Err (Shape (of_text (codes "plugin")) NoKey)
-some_entries [] c h = cc
-some_entries (entry ∷ entries) c h = refl
-
-pub fixed_accepted : (bytes : List ℕ) (c : Config) → IsAnswer (Ok c) (config_of bytes) → eqb (length c.entries) 0 ≡ true → IsAnswer (Ok c) (fixed_config_of bytes)
-fixed_accepted bytes c h e = inl (sym (fixed_read bytes c h ∙ no_entries c.entries c e))
-
-pub fixed_entries : (bytes : List ℕ) (c : Config) (refusal : ConfigRefusal) → IsAnswer (Ok c) (config_of bytes) → eqb (length c.entries) 0 ≡ false
-    → (refusal ≡ Shape (of_text (codes "plugin")) NoKey) ⊎ (refusal ≡ NoMemory) → IsAnswer (Err refusal) (fixed_config_of bytes)
-fixed_entries bytes c refusal h e (inl is) = inl (ap Err is ∙ sym (fixed_read bytes c h ∙ some_entries c.entries c e))
-fixed_entries bytes c refusal h e (inr is) = inr (ap Err is)
-
-fixed_config_of-long : (bytes : List ℕ) → 1048576 < length bytes → fixed_config_of bytes ≡ Err (TooLongConfig (length bytes))
-unfolding fixed_config_of config_of
-fixed_config_of-long bytes long = rw (lt-ltb _ _ long)
-
 config_of-long : (bytes : List ℕ) → 1048576 < length bytes → config_of bytes ≡ Err (TooLongConfig (length bytes))
 unfolding config_of
 config_of-long bytes long = rw (lt-ltb _ _ long)
-
-said_to-long : (takes : Takes) (bytes : List ℕ) → 1048576 < length bytes → said_to takes bytes ≡ Err (TooLongConfig (length bytes))
-said_to-long NoEntry bytes long = fixed_config_of-long bytes long
-said_to-long All bytes long = config_of-long bytes long
 
 -- what was read up to one byte past the limit is the file, or both are too long
 whole_file : (name : List ℕ) (files : Option Files) (read : List ℕ) → IsRead 1048576 name files read
@@ -79,27 +40,27 @@ whole_file name (Some files) read (rest, held, ends) =
       | inr short ↦ (read ++ rest, held, inl (ap (λ l. read ++ l) (ends short) ∙ append-nil read))
     ]
 
-pub config_given : (takes : Takes) (name : List ℕ) (files : Option Files) (read : List ℕ) (c : Config) → IsRead 1048576 name files read
-    → IsAnswer (Ok c) (said_to takes read) → ForBytes name files (λ bytes. said_to takes bytes ≡ Ok c)
-config_given takes name files read c h answer =
+pub config_given : (name : List ℕ) (files : Option Files) (read : List ℕ) (c : Config) → IsRead 1048576 name files read
+    → IsAnswer (Ok c) (config_of read) → ForBytes name files (λ bytes. config_of bytes ≡ Ok c)
+config_given name files read c h answer =
     let w = whole_file name files read h in
-    let e = answer_ok (said_to takes read) c answer in
+    let e = answer_ok (config_of read) c answer in
     elim w.2 [
-      | inl same ↦ (w.0, w.1, ap (said_to takes) same ∙ e)
-      | inr long ↦ let other = said_to-long takes read long.0 in cc
+      | inl same ↦ (w.0, w.1, ap config_of same ∙ e)
+      | inr long ↦ let other = config_of-long read long.0 in cc
     ]
 
-pub config_refused : (takes : Takes) (name : List ℕ) (files : Option Files) (read : List ℕ) (refusal : ConfigRefusal) → IsRead 1048576 name files read
-    → (refusal ≡ NoMemory → ⊥) → IsAnswer (Err refusal) (said_to takes read) → ForBytes name files (IsRefusedWith takes refusal)
-config_refused takes name files read refusal h other answer =
+pub config_refused : (name : List ℕ) (files : Option Files) (read : List ℕ) (refusal : ConfigRefusal) → IsRead 1048576 name files read
+    → (refusal ≡ NoMemory → ⊥) → IsAnswer (Err refusal) (config_of read) → ForBytes name files (IsRefusedWith refusal)
+config_refused name files read refusal h other answer =
     let w = whole_file name files read h in
-    let e = answer_refused (said_to takes read) refusal other answer in
+    let e = answer_refused (config_of read) refusal other answer in
     elim w.2 [
-      | inl same ↦ (w.0, w.1, (refusal, ap (said_to takes) same ∙ e, refl))
+      | inl same ↦ (w.0, w.1, (refusal, ap config_of same ∙ e, refl))
       | inr long ↦
-          let both : Err (TooLongConfig (length read)) ≡ Err refusal = sym (said_to-long takes read long.0) ∙ e in
+          let both : Err (TooLongConfig (length read)) ≡ Err refusal = sym (config_of-long read long.0) ∙ e in
           let is : TooLongConfig (length read) ≡ refusal = cc in
-          (w.0, w.1, (TooLongConfig (length w.0), said_to-long takes w.0 long.1, ap refusal_line is))
+          (w.0, w.1, (TooLongConfig (length w.0), config_of-long w.0 long.1, ap refusal_line is))
     ]
 
 -- ---- the image

@@ -4,6 +4,7 @@ use Rattle.core_host.specs.Outside.{Files, held}
 use Rattle.stage_map.specs.declared.config.Config.{Config}
 use Rattle.core_config.specs.declared.refusal.ConfigRefusal.{ConfigRefusal}
 use Rattle.core_config.specs.Allowed.{IsConfig}
+use Rattle.core_config.specs.Config.{config_of}
 use Rattle.plug_api.specs.declared.refusal.RuleRefusal.{RuleRefusal}
 use Rattle.plug_api.proofs.Verdicts.{refusal_excludes}
 use Rattle.core_sim.specs.declared.ended.Ended.{Ended}
@@ -11,7 +12,6 @@ use Rattle.core_tool.specs.declared.ends.ImageFault.{ImageFault}
 use Rattle.core_tool.specs.declared.status.Status.{Status}
 use Rattle.core_tool.specs.declared.status.Status.TheVariants as status
 use Rattle.core_tool.specs.Words.{Form, Gen, Run, Rules}
-use Rattle.core_tool.specs.Reading.{said_for}
 use Rattle.core_tool.specs.Call.{Call, Seen, ReadFailed}
 use Rattle.core_tool.specs.Boxes.{Accept, Refuse, RulesHold, TriesRules}
 use Rattle.core_tool.specs.Files.{ForConfig, ForFile, ForImage, Gives, HoldsConfig, HoldsFile, HoldsImage, MissesConfig, MissesFile, Passes, SaysConfig, config_name, image_fault, image_name}
@@ -55,20 +55,20 @@ held_name named (Some files) bytes h = (h.0, h.1)
 module _ {B : Type 0} (call : Call B) where
   same_config : (given config : Config) → Gives call given → SaysConfig call config → given ≡ config
   same_config given config g s =
-      let said = held_bytes (config_name call.form) call.files (λ b. said_for call.form b ≡ Ok given) s.bytes g.said s.held in
+      let said = held_bytes (config_name call.form) call.files (λ b. config_of b ≡ Ok given) s.bytes g.said s.held in
       let also = s.said in
       cc
 
-  not_refused : (config : Config) (refusal : ConfigRefusal) → ForConfig call (λ bytes. said_for call.form bytes ≡ Err refusal) → SaysConfig call config → ⊥
+  not_refused : (config : Config) (refusal : ConfigRefusal) → ForConfig call (λ bytes. config_of bytes ≡ Err refusal) → SaysConfig call config → ⊥
   not_refused config refusal r s =
-      let said = held_bytes (config_name call.form) call.files (λ b. said_for call.form b ≡ Err refusal) s.bytes r s.held in
+      let said = held_bytes (config_name call.form) call.files (λ b. config_of b ≡ Err refusal) s.bytes r s.held in
       let also = s.said in
       cc
 
   -- bytes that are refused give no configuration
-  not_given : (config : Config) (bytes : List ℕ) → Gives call config → HoldsConfig call bytes → IsErr (said_for call.form bytes) → ⊥
+  not_given : (config : Config) (bytes : List ℕ) → Gives call config → HoldsConfig call bytes → IsErr (config_of bytes) → ⊥
   not_given config bytes g h refused =
-      let said : said_for call.form bytes ≡ Ok config = held_bytes (config_name call.form) call.files (λ b. said_for call.form b ≡ Ok config) bytes g.said h in
+      let said : config_of bytes ≡ Ok config = held_bytes (config_name call.form) call.files (λ b. config_of b ≡ Ok config) bytes g.said h in
       let wrong : IsErr {T = Config} {E = ConfigRefusal} (Ok config) = subst IsErr said refused in
       cc
 

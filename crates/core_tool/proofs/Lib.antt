@@ -1,10 +1,10 @@
 pub mod Calls
 pub mod OptionWords
+pub mod Pushes
 pub mod Pieces
 pub mod Runs
 pub mod CallEnds
 pub mod Pulls
-pub mod OtherBoxes
 pub mod Finished
 pub mod Exact
 pub mod Answered

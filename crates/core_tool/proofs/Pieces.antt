@@ -3,7 +3,7 @@ use Rattle.std.proofs.Common.{◌≡◌, ◌<◌, ◌≤◌, ◌+◌, ℕ, suc, 
 use Rattle.std.proofs.Math.Seq.{drop-cons}
 use Rattle.std.proofs.lemmas.List.{drop_all}
 use Rattle.core_host.specs.Outside.{Appends, IsCut, grown}
-use Rattle.fixed_core.proofs.Pushes.{Appends-append, IsCut-append, IsCut-after}
+use Rattle.core_tool.proofs.Pushes.{Appends-append, IsCut-append, IsCut-after}
 use Rattle.core_tool.specs.declared.lines.Piece.{Piece}
 use Rattle.core_tool.specs.Pieces.{joined, piece_bytes}
 

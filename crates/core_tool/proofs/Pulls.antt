@@ -1,10 +1,10 @@
 -- What a call pulled in all, from what its parts pulled.
-use Rattle.std.proofs.Common.{◌≡◌, ◌≤◌, ◌⊎◌, inl, inr, ℕ, List, Option, Some, refl, ◌∙◌, arith}
+use Rattle.std.proofs.Common.{◌≡◌, ◌≤◌, ◌⊎◌, inl, inr, ℕ, List, Option, Some, refl, ◌∙◌, subst, arith}
 use Rattle.std.proofs.lemmas.Bool.{cases_lt}
 use Rattle.core_host.specs.Outside.{Files}
 use Rattle.stage_map.specs.declared.config.Config.{Config}
 use Rattle.core_tool.specs.Words.{Form}
-use Rattle.core_tool.specs.Call.{Boxes, Outside, Seen}
+use Rattle.core_tool.specs.Call.{Boxes, Call, Outside, Seen}
 use Rattle.core_tool.specs.Boxes.{RulesHold}
 use Rattle.core_tool.specs.Files.{Gives, Pulled, PulledUnlessFault, config_name, image_name}
 use Rattle.core_tool.specs.Parts.{PulledOne}
@@ -73,26 +73,25 @@ pulled_both seen name image c mid between first second gives rules less more (in
   few_of_image = earlier 67108865 image seen.call.files (seen.new.left m) seen.old.read_faults between seen.new.read_faults less few';
 }))
 
--- ---- later, and with other boxes
+-- ---- later
 
-module _ {B C : Type 0} (form : Option Form) (files : Option Files) (boxes : Boxes B) (boxes' : Boxes C) (old new new' : Outside) where
+module _ {B : Type 0} (call : Call B) (old new new' : Outside) where
   abbrev before : Seen B
-  before = record { call = record { form = form; files = files; boxes = boxes }; old = old; new = new }
+  before = record { call = call; old = old; new = new }
 
-  abbrev after : Seen C
-  after = record { call = record { form = form; files = files; boxes = boxes' }; old = old; new = new' }
+  abbrev after : Seen B
+  after = record { call = call; old = old; new = new' }
 
-  pub pulled_later : ((c : Config) → RulesHold form boxes c → RulesHold form boxes' c) → ((m : ℕ) → new'.left m ≡ new.left m) → new.read_faults ≤ new'.read_faults
-      → Pulled before → Pulled after
-  pulled_later rules same less (inl none) = inl (λ m. same m ∙ none m)
-  pulled_later rules same less (inr (inl p)) = inr (inl (record {
+  pub pulled_later : ((m : ℕ) → new'.left m ≡ new.left m) → new.read_faults ≤ new'.read_faults → Pulled before → Pulled after
+  pulled_later same less (inl none) = inl (λ m. same m ∙ none m)
+  pulled_later same less (inr (inl p)) = inr (inl (record {
     name = p.name;
     n = p.n;
     is_name = p.is_name;
     others = λ m other. same m ∙ p.others m other;
-    few = PulledUnlessFault-later 1048577 p.name files (new.left p.n) (new'.left p.n) old.read_faults new.read_faults new'.read_faults (same p.n) less p.few;
+    few = PulledUnlessFault-later 1048577 p.name call.files (new.left p.n) (new'.left p.n) old.read_faults new.read_faults new'.read_faults (same p.n) less p.few;
   }))
-  pulled_later rules same less (inr (inr p)) = inr (inr (record {
+  pulled_later same less (inr (inr p)) = inr (inr (record {
     name = p.name;
     image = p.image;
     n = p.n;
@@ -100,12 +99,19 @@ module _ {B C : Type 0} (form : Option Form) (files : Option Files) (boxes : Box
     is_name = p.is_name;
     is_image = p.is_image;
     config = p.config;
-    gives = record { is_config = p.gives.is_config; said = p.gives.said };
-    rules = rules p.config p.rules;
+    gives = p.gives;
+    rules = p.rules;
     others = λ k other other'. same k ∙ p.others k other other';
     few = elim p.few [
       | inl one ↦ inl one
-      | inr few ↦ inr (PulledUnlessFault-later 1048577 p.name files (new.left p.n) (new'.left p.n) old.read_faults new.read_faults new'.read_faults (same p.n) less few)
+      | inr few ↦ inr (PulledUnlessFault-later 1048577 p.name call.files (new.left p.n) (new'.left p.n) old.read_faults new.read_faults new'.read_faults (same p.n) less few)
     ];
-    few_of_image = PulledUnlessFault-later 67108865 p.image files (new.left p.m) (new'.left p.m) old.read_faults new.read_faults new'.read_faults (same p.m) less p.few_of_image;
+    few_of_image = PulledUnlessFault-later 67108865 p.image call.files (new.left p.m) (new'.left p.m) old.read_faults new.read_faults new'.read_faults (same p.m) less p.few_of_image;
   }))
+
+-- the words are of this form
+pub pulled_for : {B : Type 0} (named form : Option Form) (files : Option Files) (boxes : Boxes B) (old new : Outside) → named ≡ form
+    → Pulled (record { call = record { form = named; files = files; boxes = boxes }; old = old; new = new })
+    → Pulled (record { call = record { form = form; files = files; boxes = boxes }; old = old; new = new })
+pulled_for named form files boxes old new is h =
+    subst (λ f. Pulled (record { call = record { form = f; files = files; boxes = boxes }; old = old; new = new })) is h

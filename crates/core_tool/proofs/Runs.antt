@@ -1,34 +1,39 @@
 -- The memory, the tree and the run of the command `run`.
-use Rattle.std.proofs.Common.{◌≡◌, ◌≤◌, ◌⊎◌, inl, inr, ℕ, zero, suc, List, [], ◌∷◌, ◌++◌, length, drop, replicate, Some, All, Bool, true, false, cond, sym, ap, ◌∙◌, subst, arith}
+use Rattle.std.proofs.Common.{◌≡◌, ◌<◌, ◌≤◌, ◌⊎◌, inl, inr, ℕ, zero, suc, List, [], ◌∷◌, ◌++◌, length, drop, take, length-take, replicate, Option, Some, All, Bool, true, false, cond, sym, ap, ◌∙◌, subst, arith}
 use Rattle.std.proofs.lemmas.List.{drop-replicate, length-replicate, get_or-replicate, ext_get_or}
-use Rattle.core_host.specs.Outside.{grown}
+use Rattle.core_host.specs.Outside.{IsCut, Rose, grown}
 use Rattle.core_host.specs.TextHost.{Texts, fresh, text_on}
-use Rattle.core_host.specs.declared.host.Port.TheVariants.{Main}
+use Rattle.core_host.specs.declared.host.Port.TheVariants.{Main, Notes}
 use Rattle.core_ports.specs.Trace.{Trace}
 use Rattle.bus_law.specs.Memory.{Memory, IsMemory}
 use Rattle.stage_map.specs.declared.config.MemShape.{MemShape}
+use Rattle.stage_map.specs.declared.config.CoreShape.{CoreShape}
+use Rattle.stage_map.specs.declared.config.PlugEntry.{PlugEntry}
 use Rattle.stage_map.specs.declared.config.Config.{Config}
+use Rattle.plug_part.specs.Part.{Part}
+use Rattle.plug_api.specs.declared.spec.ParamFault.{ParamFault}
+use Rattle.plug_api.specs.declared.spec.Plan.{Plan}
+use Rattle.plug_api.specs.declared.spec.PlugSpec.{PlugSpec}
+use Rattle.core_gen.specs.Generated.{IsGenerated}
 use Rattle.image_load.specs.declared.refusal.ImageRefusal.{ImageRefusal}
 use Rattle.image_load.specs.declared.refusal.ImageRefusal.TheVariants as image
-use Rattle.isa_model.specs.Machine.{machine_from}
+use Rattle.isa_model.specs.Machine.{Set, machine_from}
 use Rattle.verilog_tree.specs.declared.tree.Tree.{Tree}
 use Rattle.verilog_tree.specs.Module.{Reads}
+use Rattle.verilog_mean.specs.CorePorts.{HasCorePorts}
 use Rattle.verilog_mean.specs.Erase.{plain_tree}
 use Rattle.verilog_mean.specs.Plain.{Plain}
-use Rattle.verilog_mean.specs.Sound.{IsSound}
 use Rattle.verilog_mean.specs.Zero.{zero_state}
 use Rattle.isa_follow.specs.Follows.{Follows}
-use Rattle.pipe_refine.specs.CoreText.{IsCoreText}
-use Rattle.pipe_refine.specs.Refines.{Refines}
-use Rattle.fixed_core.specs.FixedSet.{fixed_set}
-use Rattle.fixed_core.specs.Text.{core_text, IsFixedCoreText}
+use Rattle.pipe_refine.specs.Refines.{Claim, RefinesWith}
 use Rattle.core_sim.specs.declared.ended.Ended.{Ended}
 use Rattle.core_sim.specs.declared.ended.Ended.TheVariants as run_end
 use Rattle.core_sim.specs.Joint.{run_of, run_inputs}
 use Rattle.core_sim.specs.Ends.{end_of, end_from, run_text, stops_in}
 use Rattle.core_sim.specs.Over.{IsOverBuses}
 use Rattle.core_tool.specs.declared.options.Options.{Options}
-use Rattle.core_tool.specs.CoreRun.{IsCoreTree, IsCoreRun, bytes_with, memory_of}
+use Rattle.core_tool.specs.Call.{Boxes}
+use Rattle.core_tool.specs.CoreRun.{IsCoreRun, IsCoreText, IsTreeOfCore, bytes_with, memory_of, set_of}
 
 -- ---- memory
 
@@ -61,25 +66,34 @@ fresh_text room text old new e a =
     let same : Some (text_on new Main) ≡ Some text = a ∙ ap (λ h. grown (Some (text_on h Main)) text) e in
     cc
 
-pub short_text : (reset_pc : ℕ) (text : List ℕ) → text ≡ core_text reset_pc → length text ≤ 16777216
-short_text reset_pc text e =
-    let l : length text ≡ 4448 = ap length e in
-    omega arith
+-- no push of a text fails where each port has more room than its length
+pub never_cut : (room : ℕ) (text : List ℕ) (old new : Texts) → old ≡ fresh room → length text < room
+    → IsCut (Some (text_on old Main)) text (Some (text_on new Main)) → Some (text_on new Notes) ≡ Some (text_on old Notes) → Rose old.write_faults new.write_faults
+    → (length new.main < room → length new.notes < room → new.write_faults ≡ 0) → ⊥
+never_cut room text old new e short (k, less, part) notes rose whole =
+    let main : length new.main ≡ length (take k text) = ap length (fresh_text room (take k text) old new e part) in
+    let size : length (take k text) ≤ k = let l = length-take k text in omega (arith, l) in
+    let both : Some new.notes ≡ Some [] = notes ∙ ap (λ h. Some (text_on h Notes)) e in
+    let empty : new.notes ≡ [] = cc in
+    let none : length new.notes ≡ 0 = ap length empty in
+    let faults = whole (omega (arith, main, size, less, short)) (omega (arith, none, less, short)) in
+    let before = ap (λ (h : Texts). h.write_faults) e in
+    omega (arith, rose, faults, before)
 
-pub core_tree : (reset_pc : ℕ) (text : List ℕ) (t : Tree) → text ≡ core_text reset_pc → IsFixedCoreText reset_pc (core_text reset_pc) → Reads text t → IsCoreTree reset_pc t
-unfolding IsFixedCoreText
-core_tree reset_pc text t e h reads =
-    let core : IsCoreText fixed_set reset_pc text = subst (λ l. IsCoreText fixed_set reset_pc l) (sym e) h in
-    subst (λ u. IsCoreTree reset_pc u) (sym (core.one_reading.1 t reads))
-    (record { text = text; is_text = core; one_reading = core.one_reading; sound = core.sound; refines = core.refines })
+-- the same text
+pub same_text : {B : Type 0} {kind : B → List ℕ} {taken : B → Option PlugEntry} {now : B → PlugSpec} {fault : B → PlugEntry → Option ParamFault} {spec : B → PlugEntry → PlugSpec}
+    {test : B → Plan → Part → Type 0} {old new : List B} {config : Config} (text text' : List ℕ) → text' ≡ text
+    → IsGenerated kind taken now fault spec test old new config text → IsGenerated kind taken now fault spec test old new config text'
+same_text {kind = kind} {taken = taken} {now = now} {fault = fault} {spec = spec} {test = test} {old = old} {new = new} {config = config} text text' same core =
+    subst (λ l. IsGenerated kind taken now fault spec test old new config l) (sym same) core
 
--- the core's own text is refused for want of memory alone
-pub own_refused : (reset_pc : ℕ) (text : List ℕ) (W : Type 0) → text ≡ core_text reset_pc → IsFixedCoreText reset_pc (core_text reset_pc)
-    → ((t : Tree) → length text ≤ 16777216 → Reads text t → IsSound t → W) → W
-unfolding IsFixedCoreText
-own_refused reset_pc text W same h refused =
-    let core : IsCoreText fixed_set reset_pc text = subst (λ l. IsCoreText fixed_set reset_pc l) (sym same) h in
-    refused core.tree (short_text reset_pc text same) core.one_reading.0 core.sound
+-- what is read of a core's text is its tree
+pub core_tree : {B : Type 0} (boxes : Boxes B) (config : Config) (text : List ℕ) (t : Tree) → IsCoreText boxes config text → Reads text t → IsTreeOfCore boxes config t
+core_tree boxes config text t core reads = record { text = text; core = core; is_tree = sym (core.core.core.one_reading.1 t reads) }
+
+-- the tree has the core's ports
+pub core_ports : {B : Type 0} (boxes : Boxes B) (config : Config) (t : Tree) → IsTreeOfCore boxes config t → HasCorePorts (plain_tree t)
+core_ports boxes config t core = subst (λ (u : Tree). HasCorePorts (plain_tree u)) core.is_tree core.core.core.core.refines.ports
 
 -- ---- the run
 
@@ -104,23 +118,37 @@ all_zero n xs l zeros =
     let same : length xs ≡ length (replicate n 0) = l ∙ sym (length-replicate n 0) in
     ext_get_or 0 xs (replicate n 0) same (λ i less. zeros i 0 less ∙ sym (get_or-replicate n i 0 0 (omega (arith, l, less))))
 
-follows_zeros : (t : Plain) (reset_pc : ℕ) (m : Memory) (delays : List ℕ) → Refines t fixed_set reset_pc → IsMemory m → IsOverBuses t m delays
-    → (n : ℕ) → Follows fixed_set (machine_from fixed_set (replicate 32 0) reset_pc m) (run_of t m delays) n
-follows_zeros t reset_pc m delays refines is_memory over n =
+follows_zeros : (t : Plain) (s : Set) (reset_pc : ℕ) (claim : Claim s) (m : Memory) (delays : List ℕ) → RefinesWith t s reset_pc claim → IsMemory m → IsOverBuses t m delays
+    → (n : ℕ) → Follows s (machine_from s (replicate 32 0) reset_pc m) (run_of t m delays) n
+follows_zeros t s reset_pc claim m delays refines is_memory over n =
     let from = refines.from (zero_state t) over.start in
     let zeros : from.regs ≡ replicate 32 0 = all_zero 32 from.regs from.all (from.zeros over.zeros) in
-    subst (λ regs. Follows fixed_set (machine_from fixed_set regs reset_pc m) (run_of t m delays) n) zeros
+    subst (λ regs. Follows s (machine_from s regs reset_pc m) (run_of t m delays) n) zeros
     (from.follows (run_inputs t m delays) over.inputs m is_memory n (over.honest n)).0
 
-pub core_run : (config : Config) (image : List ℕ) (options : Options) (t : Tree) (m : Memory) (ended : Ended) → IsCoreTree config.shape.reset_pc t
+-- the run of a core's tree follows the machine of its plan's instructions
+core_follows : {B : Type 0} (boxes : Boxes B) (config : Config) (t : Tree) (core : IsTreeOfCore boxes config t) (m : Memory) (delays : List ℕ)
+    → IsMemory m → IsOverBuses (plain_tree t) m delays → (n : ℕ)
+    → Follows (set_of core.core.plan) (machine_from (set_of core.core.plan) (replicate 32 0) config.shape.reset_pc m) (run_of (plain_tree t) m delays) n
+core_follows boxes config t core m delays is_memory over n =
+    let plan = core.core.plan in
+    let whole = core.core.core.core in
+    let same = core.is_tree in
+    subst (λ (shape : CoreShape). Follows (set_of plan) (machine_from (set_of plan) (replicate 32 0) shape.reset_pc m) (run_of (plain_tree t) m delays) n)
+    core.core.accepted.plan_is.shape_is
+    (subst (λ (u : Tree). Follows (set_of plan) (machine_from (set_of plan) (replicate 32 0) plan.shape.reset_pc m) (run_of (plain_tree u) m delays) n) same
+    (follows_zeros (plain_tree whole.tree) (set_of plan) plan.shape.reset_pc _ m delays whole.refines is_memory
+    (subst (λ (u : Tree). IsOverBuses (plain_tree u) m delays) (sym same) over) n))
+
+pub core_run : {B : Type 0} (boxes : Boxes B) (config : Config) (image : List ℕ) (options : Options) (t : Tree) (m : Memory) (ended : Ended) → IsTreeOfCore boxes config t
     → m ≡ memory_of config.mem image → IsMemory m
     → ended ≡ end_of (run_of (plain_tree t) m (options.wait ∷ [])) options.cycles → IsOverBuses (plain_tree t) m (options.wait ∷ [])
-    → IsCoreRun config image options ended (run_text options.trace (run_of (plain_tree t) m (options.wait ∷ [])) options.cycles)
-core_run config image options t m ended core same is_memory ends over = record {
+    → IsCoreRun boxes config image options ended (run_text options.trace (run_of (plain_tree t) m (options.wait ∷ [])) options.cycles)
+core_run boxes config image options t m ended core same is_memory ends over = record {
   tree = t;
   core = core;
   ends = ends ∙ ap (λ m. end_of (run_of (plain_tree t) m (options.wait ∷ [])) options.cycles) same;
   lines = ap (λ m. run_text options.trace (run_of (plain_tree t) m (options.wait ∷ [])) options.cycles) same;
-  follows = λ n. subst (λ m. Follows fixed_set (machine_from fixed_set (replicate 32 0) config.shape.reset_pc m) (run_of (plain_tree t) m (options.wait ∷ [])) n) same
-      (follows_zeros (plain_tree t) config.shape.reset_pc m (options.wait ∷ []) core.refines is_memory over n);
+  follows = λ n. subst (λ m. Follows (set_of core.core.plan) (machine_from (set_of core.core.plan) (replicate 32 0) config.shape.reset_pc m) (run_of (plain_tree t) m (options.wait ∷ [])) n) same
+      (core_follows boxes config t core m (options.wait ∷ []) is_memory over n);
 }

@@ -5,13 +5,13 @@ use Rattle.std.specs.Prelude.{◌≡◌, ◌⊎◌, ◌≤◌, ℕ, List, [], le
 use Rattle.core_host.specs.Outside.{Appends, IsCut}
 use Rattle.stage_map.specs.declared.config.Config.{Config}
 use Rattle.core_config.specs.declared.refusal.ConfigRefusal.{ConfigRefusal}
+use Rattle.core_config.specs.Config.{config_of}
 use Rattle.plug_api.specs.declared.refusal.RuleRefusal.{RuleRefusal}
 use Rattle.core_sim.specs.declared.ended.Ended.TheVariants as run_end
 use Rattle.core_tool.specs.declared.ends.ImageFault.{ImageFault}
 use Rattle.core_tool.specs.declared.status.Status.{Status}
 use Rattle.core_tool.specs.declared.status.Status.TheVariants as status
 use Rattle.core_tool.specs.Words.{Form, Gen, Run, Rules}
-use Rattle.core_tool.specs.Reading.{said_for}
 use Rattle.core_tool.specs.Call.{Seen, ReadFailed, WriteFailed}
 use Rattle.core_tool.specs.Boxes.{AreUntouched, HaveTakenBefore, HaveTakenSome, KeepKinds, Refuse, RulesHold, TriesRules}
 use Rattle.core_tool.specs.Files.{ForConfig, ForImage, Gives, HoldsConfig, HoldsImage, MissesConfig, MissesImage, Passes, SaysConfig, config_name, image_fault, image_name}
@@ -64,7 +64,7 @@ MustBeUsage seen = seen.call.form ≡ None
 -- the configuration is refused, for the first fault of its bytes
 pub record IsConfigRefused {B : Type 0} (seen : Seen B) (line : List ℕ) : Type 0 where
   pub refusal : ConfigRefusal
-  pub refused : ForConfig seen.call (λ bytes. said_for seen.call.form bytes ≡ Err refusal)
+  pub refused : ForConfig seen.call (λ bytes. config_of bytes ≡ Err refusal)
   pub main : HasNoText seen
   pub is_line : line ≡ refusal_line refusal
   pub boxes : AreUntouched seen.call.boxes
@@ -73,7 +73,7 @@ pub record IsConfigRefused {B : Type 0} (seen : Seen B) (line : List ℕ) : Type
 pub record MustBeConfigRefused {B : Type 0} (seen : Seen B) : Type 0 where
   pub bytes : List ℕ
   pub held : HoldsConfig seen.call bytes
-  pub refused : IsErr (said_for seen.call.form bytes)
+  pub refused : IsErr (config_of bytes)
   pub calm : ¬ (ReadFailed seen)
 
 -- ---- 4

@@ -45,11 +45,11 @@ KeepKinds boxes = SameKinds boxes.kind boxes.fault boxes.spec boxes.old boxes.ne
 
 -- ---- by command
 
--- the command tries the rules of acceptance: `rules` alone so far
+-- the command tries the rules of acceptance: each does so far
 abbrev pub TriesRules : Option Form → Type 0
 TriesRules None = ⊥
-TriesRules (Some (Gen name)) = ⊥
-TriesRules (Some (Run config image options)) = ⊥
+TriesRules (Some (Gen name)) = Unit {0}
+TriesRules (Some (Run config image options)) = Unit {0}
 TriesRules (Some (Rules name)) = Unit {0}
 
 -- the rules hold, where the command tries them

@@ -4,10 +4,10 @@ use Rattle.core_host.specs.Outside.{Files, Rose, IsMissing, SameButOne, PulledAt
 use Rattle.stage_map.specs.declared.config.MemShape.{MemShape}
 use Rattle.stage_map.specs.declared.config.Config.{Config}
 use Rattle.core_config.specs.Allowed.{IsConfig}
+use Rattle.core_config.specs.Config.{config_of}
 use Rattle.core_tool.specs.declared.ends.ImageFault.{ImageFault}
 use Rattle.core_tool.specs.declared.ends.ImageFault.TheVariants.{TooLong, Outside}
 use Rattle.core_tool.specs.Words.{Form, Gen, Run, Rules}
-use Rattle.core_tool.specs.Reading.{said_for}
 use Rattle.core_tool.specs.Call.{Call, Seen}
 use Rattle.core_tool.specs.Boxes.{HavePassed, RulesHold}
 
@@ -64,7 +64,7 @@ ForImage call P = ForFile (image_name call.form) call.files P
 -- the bytes of the configuration say this one
 pub record Gives {B : Type 0} (call : Call B) (config : Config) : Type 0 where
   pub is_config : IsConfig config
-  pub said : ForConfig call (λ bytes. said_for call.form bytes ≡ Ok config)
+  pub said : ForConfig call (λ bytes. config_of bytes ≡ Ok config)
 
 -- the configuration is read, and the rules that the command tries hold of it; and the boxes are as the rules leave them
 pub record Passes {B : Type 0} (call : Call B) (config : Config) : Type 0 where
@@ -89,7 +89,7 @@ MissesImage call = MissesFile (image_name call.form) call.files
 pub record SaysConfig {B : Type 0} (call : Call B) (config : Config) : Type 0 where
   pub bytes : List ℕ
   pub held : HoldsConfig call bytes
-  pub said : said_for call.form bytes ≡ Ok config
+  pub said : config_of bytes ≡ Ok config
 
 -- Why an image is refused, if it is: an image has at most 67,108,864 bytes, and no more than memory has, behind which is the
 -- address that is told.

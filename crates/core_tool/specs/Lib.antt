@@ -1,7 +1,6 @@
 pub mod Status
 pub mod Options
 pub mod Words
-pub mod Reading
 pub mod Call
 pub mod Boxes
 pub mod Files

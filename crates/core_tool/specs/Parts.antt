@@ -4,7 +4,10 @@ use Rattle.core_host.specs.Outside.{Files, Rose, Appends, IsCut, IsMissing, Same
 use Rattle.bus_law.specs.Memory.{Memory}
 use Rattle.stage_map.specs.declared.config.MemShape.{MemShape}
 use Rattle.stage_map.specs.declared.config.Config.{Config}
+use Rattle.verilog_tree.specs.declared.tree.Tree.{Tree}
+use Rattle.verilog_tree.specs.Module.{Reads}
 use Rattle.verilog_mean.specs.Plain.{Plain}
+use Rattle.verilog_mean.specs.Sound.{IsSound}
 use Rattle.core_sim.specs.declared.ended.Ended.{Ended}
 use Rattle.core_sim.specs.declared.ended.Ended.TheVariants as run_end
 use Rattle.core_sim.specs.Joint.{run_of}
@@ -13,9 +16,8 @@ use Rattle.core_sim.specs.Over.{IsOverBuses}
 use Rattle.core_tool.specs.declared.ends.CallEnd.{CallEnd}
 use Rattle.core_tool.specs.declared.ends.CallEnd.TheVariants.{Refused, RulesRefused, BadFile, BadImage, OutOfMemory, Unwritten, CyclesEnded, Stopped}
 use Rattle.core_tool.specs.declared.options.Options.{Options}
-use Rattle.core_tool.specs.declared.reading.Takes.{Takes}
 use Rattle.core_config.specs.declared.refusal.ConfigRefusal.{ConfigRefusal}
-use Rattle.core_tool.specs.Reading.{said_to}
+use Rattle.core_config.specs.Config.{config_of}
 use Rattle.core_tool.specs.Lines.{refusal_line}
 use Rattle.core_tool.specs.Call.{Boxes}
 use Rattle.core_tool.specs.Boxes.{HaveTakenBefore, HaveTakenSome, Refuse}
@@ -38,15 +40,15 @@ abbrev pub ForBytes : (name : List ℕ) → Option Files → (P : List ℕ → T
 ForBytes name files P = (bytes : List ℕ) × IsFile name files bytes × P bytes
 
 -- bytes are refused with the line of this refusal; how many too long ones are is not told
-abbrev pub IsRefusedWith : Takes → ConfigRefusal → List ℕ → Type 0
-IsRefusedWith takes refusal bytes = (first : ConfigRefusal) × (said_to takes bytes ≡ Err first) × (refusal_line first ≡ refusal_line refusal)
+abbrev pub IsRefusedWith : ConfigRefusal → List ℕ → Type 0
+IsRefusedWith refusal bytes = (first : ConfigRefusal) × (config_of bytes ≡ Err first) × (refusal_line first ≡ refusal_line refusal)
 
 -- the end of a call whose configuration is not read or refused
-abbrev pub IsConfigEnd : Takes → (name : List ℕ) → Option Files → (before now : ℕ) → CallEnd → Type 0
-IsConfigEnd takes name files before now (Refused refusal) = ForBytes name files (IsRefusedWith takes refusal)
-IsConfigEnd takes name files before now BadFile = IsUnreadFile name files before now
-IsConfigEnd takes name files before now OutOfMemory = Unit {0}
-IsConfigEnd takes name files before now other = ⊥
+abbrev pub IsConfigEnd : (name : List ℕ) → Option Files → (before now : ℕ) → CallEnd → Type 0
+IsConfigEnd name files before now (Refused refusal) = ForBytes name files (IsRefusedWith refusal)
+IsConfigEnd name files before now BadFile = IsUnreadFile name files before now
+IsConfigEnd name files before now OutOfMemory = Unit {0}
+IsConfigEnd name files before now other = ⊥
 
 -- ---- the rules
 
@@ -55,6 +57,14 @@ abbrev pub IsJudged : {B : Type 0} → Boxes B → Config → CallEnd → Type 0
 IsJudged boxes config (RulesRefused refusal) = Refuse boxes config refusal × HaveTakenBefore boxes config refusal
 IsJudged boxes config OutOfMemory = HaveTakenSome boxes config
 IsJudged boxes config other = ⊥
+
+-- ---- the core
+
+-- the text is short enough to be read, and its tree is this one, which is sound
+pub record IsLoadable (text : List ℕ) (t : Tree) : Type 0 where
+  pub short : length text ≤ 16777216
+  pub reads : Reads text t
+  pub sound : IsSound t
 
 -- ---- the image
 

@@ -8,11 +8,11 @@ use Rattle.core_tool.specs.Call.{Call}
 use Rattle.core_tool.specs.Files.{IsFile, Passes}
 use Rattle.core_tool.specs.CoreRun.{IsCoreText, IsCoreRun}
 
--- the text is that of the core of the configuration
+-- the text is that of the core that the boxes build of the configuration
 pub record IsGenText {B : Type 0} (call : Call B) (text : List ℕ) : Type 0 where
   pub config : Config
   pub passes : Passes call config
-  pub core : IsCoreText config text
+  pub core : IsCoreText call.boxes config text
 
 -- the configuration is accepted, and the text says so
 pub record IsRulesText {B : Type 0} (call : Call B) (text : List ℕ) : Type 0 where
@@ -28,7 +28,7 @@ pub record IsRunText {B : Type 0} (call : Call B) (image : List ℕ) (options : 
   pub file : IsFile image call.files bytes
   -- the image fits into the memory of the configuration
   pub fits : length bytes ≤ config.mem.size
-  pub run : IsCoreRun config bytes options ended text
+  pub run : IsCoreRun call.boxes config bytes options ended text
 
 -- the text of a call that is done
 abbrev pub IsTextFor : {B : Type 0} → Option Form → Call B → (text : List ℕ) → Type 0

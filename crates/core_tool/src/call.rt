@@ -2,9 +2,9 @@ ghost use Rattle.std.specs.Prelude.{◌≡◌, ◌≤◌, ◌<◌, ◌^◌, ℕ,
 ghost use Rattle.core_host.specs.declared.host.Port.{Port};
 ghost use Rattle.core_host.specs.declared.host.Port.TheVariants.{Main, Notes};
 ghost use Rattle.core_config.specs.Allowed.{IsConfig};
+ghost use Rattle.core_config.specs.Config.{config_of};
 ghost use Rattle.core_tool.specs.Words.{Gen, Rules, Run};
-ghost use Rattle.core_tool.specs.Reading.{said_to};
-ghost use Rattle.core_tool.specs.Call.{boxes_of, seen_alone, seen_as, seen_of};
+ghost use Rattle.core_tool.specs.Call.{boxes_of, seen_as, seen_of};
 ghost use Rattle.core_tool.specs.Boxes.{HaveTakenAll, KeepKinds};
 ghost use Rattle.core_tool.specs.Files.{Pulled};
 ghost use Rattle.core_tool.specs.Answers.{
@@ -36,12 +36,11 @@ ghost use Rattle.core_tool.specs.Parts.{ForBytes, IsConfigEnd, IsJudged, PulledO
 use crate::Status;
 use crate::ends::{CallEnd, push_line};
 use crate::options::Options;
-use crate::reading::{Takes, read_for};
 use crate::run::{load, own_tree, simulate};
 use crate::words::Form;
-use core_config::ConfigRefusal;
+use core_config::{ConfigRefusal, read_config};
+use core_gen::{GenRefusal, generate};
 use core_host::{Host, Port, ReadEnd, push_all, read_file};
-use fixed_core::push_core;
 use plug_api::{Plugin, RuleRefusal, accept};
 use stage_map::Config;
 use std::alloc::Global;
@@ -142,68 +141,80 @@ fn work<H: Host>(
     ensures kept { KeepKinds (boxes_of ⟦<dyn Plugin as Plugin>⟧ plugs.old plugs.new) }
 {
     match Form::of(words) {
-        Some(Form::Gen { name }) => generate(alloc, name, host),
+        Some(Form::Gen { name }) => write_core(alloc, name, plugs, host),
         Some(
             Form::Run {
                 config,
                 image,
                 options,
             },
-        ) => run(alloc, config, image, options, host),
+        ) => run(alloc, config, image, options, plugs, host),
         Some(Form::Rules { name }) => try_rules(alloc, name, plugs, host),
         None => CallEnd::BadWords,
     }
 }
 
 /// Writes the core of the configuration of that name on the main port.
-fn generate<H: Host>(alloc: Global, name: &str, host: &mut H) -> CallEnd
-    ensures ends { IsEnd (seen_alone (Gen name.now) H.Host host.old host.new) result }
-    ensures pulled { Pulled (seen_alone (Gen name.now) H.Host host.old host.new) }
+fn write_core<H: Host>(
+    alloc: Global,
+    name: &str,
+    plugs: &mut Vec<Box<dyn Plugin>>,
+    host: &mut H,
+) -> CallEnd
+    requires few { length plugs.old.items < 2 ^ 32 }
+    ensures ends { IsEnd (seen_as (Some (Gen name.now)) H.Host ⟦<dyn Plugin as Plugin>⟧ plugs.old plugs.new host.old host.new) result }
+    ensures pulled { Pulled (seen_as (Some (Gen name.now)) H.Host ⟦<dyn Plugin as Plugin>⟧ plugs.old plugs.new host.old host.new) }
     ensures notes { H.pushed host.new Notes ≡ H.pushed host.old Notes }
     ensures files { H.files host.new ≡ H.files host.old }
     ensures numbers { (m : ℕ) → H.given host.old m → H.given host.new m }
     ensures names { (m : ℕ) → H.given host.old m → H.opened host.new m ≡ H.opened host.old m }
     ensures reads { H.read_faults host.old ≤ H.read_faults host.new }
     ensures writes { H.write_faults host.old ≤ H.write_faults host.new }
+    ensures kept { KeepKinds (boxes_of ⟦<dyn Plugin as Plugin>⟧ plugs.old plugs.new) }
 {
-    let config = match configure(alloc, Takes::NoEntry, name, host) {
+    let config = match configure(alloc, name, host) {
         Ok(config) => config,
         Err(end) => return end,
     };
-    match push_core(host, config.shape.reset_pc) {
+    match generate(alloc, &config, plugs, host) {
         Ok(()) => CallEnd::Written,
-        Err(_) => CallEnd::Unwritten,
+        Err(GenRefusal::Rules { refusal }) => CallEnd::RulesRefused(refusal),
+        Err(GenRefusal::WriteFault) => CallEnd::Unwritten,
+        Err(GenRefusal::NoMemory) => CallEnd::OutOfMemory,
     }
 }
 
-/// Runs the core of a configuration over an image, both of these names.
+/// Runs the core of a configuration over an image, both of these names. The core is generated before the image is read.
 fn run<H: Host>(
     alloc: Global,
     config_file: &str,
     image: &str,
     options: Options,
+    plugs: &mut Vec<Box<dyn Plugin>>,
     host: &mut H,
 ) -> CallEnd
-    ensures ends { IsEnd (seen_alone (Run config_file.now image.now options) H.Host host.old host.new) result }
-    ensures pulled { Pulled (seen_alone (Run config_file.now image.now options) H.Host host.old host.new) }
+    requires few { length plugs.old.items < 2 ^ 32 }
+    ensures ends { IsEnd (seen_as (Some (Run config_file.now image.now options)) H.Host ⟦<dyn Plugin as Plugin>⟧ plugs.old plugs.new host.old host.new) result }
+    ensures pulled { Pulled (seen_as (Some (Run config_file.now image.now options)) H.Host ⟦<dyn Plugin as Plugin>⟧ plugs.old plugs.new host.old host.new) }
     ensures notes { H.pushed host.new Notes ≡ H.pushed host.old Notes }
     ensures files { H.files host.new ≡ H.files host.old }
     ensures numbers { (m : ℕ) → H.given host.old m → H.given host.new m }
     ensures names { (m : ℕ) → H.given host.old m → H.opened host.new m ≡ H.opened host.old m }
     ensures reads { H.read_faults host.old ≤ H.read_faults host.new }
     ensures writes { H.write_faults host.old ≤ H.write_faults host.new }
+    ensures kept { KeepKinds (boxes_of ⟦<dyn Plugin as Plugin>⟧ plugs.old plugs.new) }
 {
-    let config = match configure(alloc, Takes::NoEntry, config_file, host) {
+    let config = match configure(alloc, config_file, host) {
         Ok(config) => config,
+        Err(end) => return end,
+    };
+    let checked = match own_tree(alloc, &config, plugs) {
+        Ok(checked) => checked,
         Err(end) => return end,
     };
     let memory = match load(alloc, image, config.mem, host) {
         Ok(memory) => memory,
         Err(end) => return end,
-    };
-    let checked = match own_tree(alloc, config.shape.reset_pc) {
-        Ok(checked) => checked,
-        Err(_) => return CallEnd::OutOfMemory,
     };
     simulate(alloc, &checked, memory, options, host)
 }
@@ -226,7 +237,7 @@ fn try_rules<H: Host>(
     ensures writes { H.write_faults host.old ≤ H.write_faults host.new }
     ensures kept { KeepKinds (boxes_of ⟦<dyn Plugin as Plugin>⟧ plugs.old plugs.new) }
 {
-    let config = match configure(alloc, Takes::All, name, host) {
+    let config = match configure(alloc, name, host) {
         Ok(config) => config,
         Err(end) => return end,
     };
@@ -258,15 +269,10 @@ fn judge(alloc: Global, config: &Config, plugs: &mut Vec<Box<dyn Plugin>>) -> Re
 }
 
 /// Reads the configuration of that name.
-fn configure<H: Host>(
-    alloc: Global,
-    takes: Takes,
-    name: &str,
-    host: &mut H,
-) -> Result<Config, CallEnd>
+fn configure<H: Host>(alloc: Global, name: &str, host: &mut H) -> Result<Config, CallEnd>
     ensures allowed { IfOk result (λ c. IsConfig c) }
-    ensures given { IfOk result (λ c. ForBytes name.now (H.files host.old) (λ bytes. said_to takes bytes ≡ Ok c)) }
-    ensures ends { IfErr result (λ e. IsConfigEnd takes name.now (H.files host.old) (H.read_faults host.old) (H.read_faults host.new) e) }
+    ensures given { IfOk result (λ c. ForBytes name.now (H.files host.old) (λ bytes. config_of bytes ≡ Ok c)) }
+    ensures ends { IfErr result (λ e. IsConfigEnd name.now (H.files host.old) (H.read_faults host.old) (H.read_faults host.new) e) }
     ensures pulled { PulledOne 1048577 name.now (H.files host.old) (H.left host.old) (H.left host.new)
         (H.read_faults host.old) (H.read_faults host.new) }
     ensures ports { (p : Port) → H.pushed host.new p ≡ H.pushed host.old p }
@@ -281,7 +287,7 @@ fn configure<H: Host>(
         Err(ReadEnd::Fault) => return Err(CallEnd::BadFile),
         Err(ReadEnd::NoMemory) => return Err(CallEnd::OutOfMemory),
     };
-    match read_for(alloc, takes, &bytes) {
+    match read_config(alloc, &bytes) {
         Ok(config) => Ok(config),
         Err(refusal) => match refusal {
             ConfigRefusal::NoMemory => Err(CallEnd::OutOfMemory),

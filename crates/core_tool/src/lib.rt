@@ -6,7 +6,7 @@ mod ends;
 mod law;
 mod lines;
 mod options;
-mod reading;
+mod ports;
 mod rules;
 mod run;
 mod status;

@@ -1,31 +1,33 @@
-ghost use Rattle.std.specs.Prelude.{◌≡◌, ◌≤◌, ◌%◌, ◌⊎◌, ℕ, List, Some, length, IfOk, IfErr, OnOk};
+ghost use Rattle.std.specs.Prelude.{◌≡◌, ◌≤◌, ◌<◌, ◌^◌, ◌⊎◌, ℕ, List, Some, length, IfOk, IfErr};
 ghost use Rattle.core_host.specs.declared.host.Port.{Port};
 ghost use Rattle.core_host.specs.declared.host.Port.TheVariants.{Main};
-ghost use Rattle.core_host.specs.TextHost.{text_on};
-ghost use Rattle.core_config.specs.Allowed.{IsMemory};
+ghost use Rattle.bus_law.specs.Memory.{IsMemory};
+ghost use Rattle.core_config.specs.Allowed.{IsConfig, IsMemory as IsMemoryShape};
+ghost use Rattle.verilog_tree.specs.declared.tree.Tree.{Tree};
+ghost use Rattle.verilog_tree.specs.Module.{Reads};
 ghost use Rattle.verilog_mean.specs.Checked.{IsChecked};
 ghost use Rattle.verilog_mean.specs.CorePorts.{HasCorePorts};
 ghost use Rattle.verilog_mean.specs.Erase.{plain_tree};
-ghost use Rattle.fixed_core.specs.Text.{core_text, IsFixedCoreText};
-ghost use Rattle.core_tool.specs.CoreRun.{IsCoreTree, memory_of};
+ghost use Rattle.core_tool.specs.Call.{boxes_of};
+ghost use Rattle.core_tool.specs.Boxes.{KeepKinds};
+ghost use Rattle.core_tool.specs.CoreRun.{IsCoreText, IsTreeOfCore, memory_of};
 ghost use Rattle.core_tool.specs.Files.{image_fault};
 ghost use Rattle.core_tool.specs.declared.ends.ImageFault.{ImageFault};
-ghost use Rattle.core_tool.specs.Parts.{IsImageEnd, IsLoaded, IsSimulated, PulledOne};
+ghost use Rattle.core_tool.specs.Parts.{IsImageEnd, IsJudged, IsLoadable, IsLoaded, IsSimulated, PulledOne};
 
 use crate::ends::{CallEnd, ImageFault};
 use crate::options::Options;
+use crate::ports::TextPorts;
 use bus_law::Mem;
-use core_host::{Host, List, Port, ReadEnd, TextHost, read_file};
+use core_gen::{GenRefusal, generate};
+use core_host::{Host, List, ReadEnd, read_file};
 use core_sim::{Ended, RunOpts, SimRefusal, run_tree};
-use fixed_core::push_core;
 use image_load::{ImageRefusal, MOST_BYTES, load_raw};
-use stage_map::MemShape;
+use plug_api::Plugin;
+use stage_map::{Config, MemShape};
 use std::alloc::{AllocError, Global};
 use verilog_load::{TextRefusal, load_text};
 use verilog_mean::Checked;
-
-/// The room for the core's text, in bytes: one more than the longest text that is read.
-const TEXT_ROOM: u32 = 16_777_217;
 
 /// Reads the image of that name into a memory of this shape.
 pub fn load<H: Host>(
@@ -34,8 +36,9 @@ pub fn load<H: Host>(
     shape: MemShape,
     host: &mut H,
 ) -> Result<Mem, CallEnd>
-    requires shape { IsMemory shape }
+    requires shape { IsMemoryShape shape }
     ensures loaded { IfOk result (λ m. IsLoaded name.now (H.files host.old) shape m) }
+    ensures memory { IfOk result (λ m. IsMemory m) }
     ensures refused { IfErr result (λ e. IsImageEnd name.now (H.files host.old) shape (H.read_faults host.old) (H.read_faults host.new) e) }
     ensures pulled { PulledOne 67108865 name.now (H.files host.old) (H.left host.old) (H.left host.new)
         (H.read_faults host.old) (H.read_faults host.new) }
@@ -52,7 +55,10 @@ pub fn load<H: Host>(
         Err(ReadEnd::NoMemory) => return Err(CallEnd::OutOfMemory),
     };
     match memory_with(alloc, shape, &bytes) {
-        Ok(memory) => Ok(memory),
+        Ok(memory) => {
+            let _ = memory.base();
+            Ok(memory)
+        }
         Err(LoadFault::Refused(fault)) => Err(CallEnd::BadImage(fault)),
         Err(LoadFault::NoMemory) => Err(CallEnd::OutOfMemory),
     }
@@ -66,7 +72,7 @@ enum LoadFault {
 
 /// The memory of a run as it starts, of this shape and with these bytes as its image.
 fn memory_with(alloc: Global, shape: MemShape, image: &[u8]) -> Result<Mem, LoadFault>
-    requires shape { IsMemory shape }
+    requires shape { IsMemoryShape shape }
     ensures loaded { IfOk result (λ m. m ≡ memory_of shape image.now) }
     ensures fits { IfOk result (λ m. length image.now ≤ shape.size) }
     ensures refused { (fault : ImageFault) → result ≡ Err (LoadFault.Refused fault) → image_fault shape image.now ≡ Some fault }
@@ -85,22 +91,34 @@ fn memory_with(alloc: Global, shape: MemShape, image: &[u8]) -> Result<Mem, Load
     }
 }
 
-/// The tree of the core with this reset pc, read from the core's own text and checked.
-pub fn own_tree(alloc: Global, reset_pc: u32) -> Result<Checked, AllocError>
-    requires aligned { reset_pc % 4 ≡ 0 }
+/// The tree of the core of a configuration, read from the text that the plug-ins build.
+pub fn own_tree(
+    alloc: Global,
+    config: &Config,
+    plugs: &mut Vec<Box<dyn Plugin>>,
+) -> Result<Checked, CallEnd>
+    requires config { IsConfig config.now }
+    requires few { length plugs.old.items < 2 ^ 32 }
     ensures checked { IfOk result (λ c. IsChecked c) }
-    ensures core { IfOk result (λ c. IsCoreTree reset_pc c.tree) }
+    ensures core { IfOk result (λ c. IsTreeOfCore (boxes_of ⟦<dyn Plugin as Plugin>⟧ plugs.old plugs.new) config.now c.tree) }
+    ensures ends { IfErr result (λ e. IsJudged (boxes_of ⟦<dyn Plugin as Plugin>⟧ plugs.old plugs.new) config.now e) }
+    ensures kept { KeepKinds (boxes_of ⟦<dyn Plugin as Plugin>⟧ plugs.old plugs.new) }
 {
-    let text = own_text(alloc, reset_pc)?;
-    load_own(alloc, text.pushed(Port::Main).as_slice(), reset_pc)
+    let ports = match own_text(alloc, config, plugs) {
+        Ok(ports) => ports,
+        Err(end) => return Err(end),
+    };
+    match load_own(alloc, ports.text()) {
+        Ok(checked) => Ok(checked),
+        Err(_) => Err(CallEnd::OutOfMemory),
+    }
 }
 
-/// The tree of the core's own text. The text is read and sound, so that memory alone can be wanting.
-fn load_own(alloc: Global, text: &[u8], reset_pc: u32) -> Result<Checked, AllocError>
-    requires is_text { text.now ≡ core_text reset_pc }
-    requires core { IsFixedCoreText reset_pc (core_text reset_pc) }
+/// The tree of a text that is read and sound, so that memory alone can be wanting.
+fn load_own(alloc: Global, text: &[u8]) -> Result<Checked, AllocError>
+    requires is_read { (t : Tree) × IsLoadable text.now t }
     ensures checked { IfOk result (λ c. IsChecked c) }
-    ensures core { IfOk result (λ c. IsCoreTree reset_pc c.tree) }
+    ensures reads { IfOk result (λ c. Reads text.now c.tree) }
 {
     match load_text(alloc, text) {
         Ok(checked) => Ok(checked),
@@ -111,17 +129,30 @@ fn load_own(alloc: Global, text: &[u8], reset_pc: u32) -> Result<Checked, AllocE
     }
 }
 
-/// The text of the core with this reset pc, on the main port of a host of its own.
-fn own_text(alloc: Global, reset_pc: u32) -> Result<TextHost, AllocError>
-    requires aligned { reset_pc % 4 ≡ 0 }
-    ensures text { IfOk result (λ h. text_on h Main ≡ core_text reset_pc) }
-    ensures core { OnOk result (IsFixedCoreText reset_pc (core_text reset_pc)) }
+/// The text of the core of a configuration, on ports of its own. They have room for it, so that memory alone can be wanting.
+fn own_text(
+    alloc: Global,
+    config: &Config,
+    plugs: &mut Vec<Box<dyn Plugin>>,
+) -> Result<TextPorts, CallEnd>
+    requires config { IsConfig config.now }
+    requires few { length plugs.old.items < 2 ^ 32 }
+    ensures text { IfOk result (λ h. IsCoreText (boxes_of ⟦<dyn Plugin as Plugin>⟧ plugs.old plugs.new) config.now h.texts.main) }
+    ensures ends { IfErr result (λ e. IsJudged (boxes_of ⟦<dyn Plugin as Plugin>⟧ plugs.old plugs.new) config.now e) }
+    ensures kept { KeepKinds (boxes_of ⟦<dyn Plugin as Plugin>⟧ plugs.old plugs.new) }
 {
-    let mut host = TextHost::with_room(alloc, TEXT_ROOM)?;
-    match push_core(&mut host, reset_pc) {
-        Ok(()) => Ok(host),
-        // The port is full.
-        Err(_) => Err(AllocError),
+    let mut ports = match TextPorts::new(alloc) {
+        Ok(ports) => ports,
+        Err(_) => return Err(CallEnd::OutOfMemory),
+    };
+    match generate(alloc, config, plugs, &mut ports) {
+        Ok(()) => Ok(ports),
+        Err(GenRefusal::Rules { refusal }) => Err(CallEnd::RulesRefused(refusal)),
+        Err(GenRefusal::WriteFault) => {
+            let _ = ports.text();
+            unreachable!()
+        }
+        Err(GenRefusal::NoMemory) => Err(CallEnd::OutOfMemory),
     }
 }
 

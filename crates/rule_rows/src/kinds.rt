@@ -323,17 +323,20 @@ const SPECS: &[(Own, bool)] = &[
     ),
 ];
 
+/// Whether a kind answers so, and is as it was where it refuses.
+fn is_taken(alloc: Global, kind: Kind, params: Params, wanted: &str) -> Result<bool, AllocError> {
+    let mut state = KindState::new(alloc, kind)?;
+    let before = state.spec().latency;
+    let found = taken(alloc, &mut state, params)?;
+    let kept = !wanted.ends_with("}") || state.spec().latency == before;
+    Ok(kept && found.as_str() == wanted)
+}
+
 #[test]
 fn kinds_take_their_parameters(rt: HostRuntime) -> Result<(), Fail> {
     let alloc = rt.alloc();
     for (kind, params, wanted) in PARAMS {
-        let mut state = KindState::new(alloc, *kind)?;
-        let before = state.spec().latency;
-        let found = taken(alloc, &mut state, *params)?;
-        assert_eq!(rt; found.as_str(), *wanted);
-        if found.as_str().ends_with("}") {
-            assert_eq!(rt; state.spec().latency, before, "{wanted}");
-        }
+        assert!(rt; is_taken(alloc, *kind, *params, *wanted)?, "{wanted}");
     }
     Ok(())
 }
@@ -342,7 +345,7 @@ fn kinds_take_their_parameters(rt: HostRuntime) -> Result<(), Fail> {
 fn not_all_may_be_said(rt: HostRuntime) -> Result<(), Fail> {
     let alloc = rt.alloc();
     for (own, may) in SPECS {
-        assert_eq!(rt; is_spec(&spec(alloc, *own)?), *may);
+        assert!(rt; is_spec(&spec(alloc, *own)?) == *may);
     }
     Ok(())
 }

@@ -2,6 +2,8 @@
 //! their own, and are proved once.
 #![tactic(auto)]
 
+#[cfg(test)]
+mod calls;
 mod fit;
 #[cfg(test)]
 mod judge;

@@ -1,7 +1,7 @@
 use core_host::{List, Name};
 use isa_table::{Claim, row_at};
 use plug_api::{Cost, Place, PlugSpec};
-use plug_kinds::{Idle, Kind, spec_of};
+use plug_kinds::{Idle, Kind};
 use service_reg::Service;
 use stage_map::{Key, KeyUse, Param, ParamValue, PlugEntry, Stage};
 use std::alloc::{AllocError, Global};
@@ -214,22 +214,10 @@ pub fn spec(alloc: Global, own: Own) -> Result<PlugSpec, AllocError> {
     })
 }
 
-/// The plug-in that says this of itself, which offers nothing.
-fn idle_of(spec: PlugSpec) -> Result<Idle, AllocError> {
-    match Idle::of(spec) {
+/// The plug-in of a test's own, which offers nothing.
+pub fn idle(alloc: Global, own: Own) -> Result<Idle, AllocError> {
+    match Idle::of(spec(alloc, own)?) {
         Some(plug) => Ok(plug),
         None => Err(AllocError),
     }
-}
-
-/// The plug-in of a test's own, which offers nothing.
-pub fn idle(alloc: Global, own: Own) -> Result<Idle, AllocError> {
-    idle_of(spec(alloc, own)?)
-}
-
-/// A plug-in that has the name of a kind, and offers nothing.
-pub fn stand_in(alloc: Global, kind: Kind) -> Result<Idle, AllocError> {
-    let mut said = spec(alloc, PLAIN)?;
-    said.name = spec_of(alloc, kind, &[])?.name;
-    idle_of(said)
 }

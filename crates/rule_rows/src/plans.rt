@@ -157,16 +157,12 @@ fn each_core_has_its_plan(rt: HostRuntime) -> Result<(), Fail> {
     let alloc = rt.alloc();
     for (isa, names, picks, order, rows, has_csr, wanted) in PLANS {
         let specs = specs_at(alloc, *picks)?;
-        assert_eq!(rt; names_of(alloc, &specs)?.as_str(), *names);
-        match checked(alloc, *isa, &specs) {
-            Ok(found) => {
-                assert!(rt;
-                    is_found(&found, *order, *rows, *has_csr, *wanted),
-                    "{names}"
-                );
-            }
-            Err(refusal) => assert!(rt; false, "{refusal:?}"),
-        }
+        let named = names_of(alloc, &specs)?.as_str() == *names;
+        let found = match checked(alloc, *isa, &specs) {
+            Ok(found) => is_found(&found, *order, *rows, *has_csr, *wanted),
+            Err(_refusal) => false,
+        };
+        assert!(rt; named && found, "{names}");
     }
     Ok(())
 }
@@ -193,9 +189,10 @@ fn are_computes(claims: &Vec<OwnedClaim>) -> bool {
 fn claims_have_their_entries(rt: HostRuntime) -> Result<(), Fail> {
     let alloc = rt.alloc();
     let specs = specs_at(alloc, &[0, 4, 5, 6, 7])?;
-    match checked(alloc, Isa::Claimed, &specs) {
-        Ok(found) => assert!(rt; are_computes(&found.claims)),
-        Err(refusal) => assert!(rt; false, "{refusal:?}"),
-    }
+    let right = match checked(alloc, Isa::Claimed, &specs) {
+        Ok(found) => are_computes(&found.claims),
+        Err(_refusal) => false,
+    };
+    assert!(rt; right);
     Ok(())
 }

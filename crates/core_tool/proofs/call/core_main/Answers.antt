@@ -56,5 +56,5 @@ returns-clause-stopped g c = noted _ c.finish.result status.Stopped (λ e. cc) (
 
 pub returns-clause-pulled : goal.returns-clause-pulled
 returns-clause-pulled g c =
-    pulled_later _ (g.H.Host.files c.args.host.now) _ _ (outside_of g.H.Host c.args.host.now) (outside_of g.H.Host c.work-end.new.host) (outside_of g.H.Host c.finish.new.host)
-    (λ n h. h) c.finish.ensures.left c.finish.ensures.reads c.work-end.ensures.pulled
+    pulled_later _ (outside_of g.H.Host c.args.host.now) (outside_of g.H.Host c.work-end.new.host) (outside_of g.H.Host c.finish.new.host)
+    c.finish.ensures.left c.finish.ensures.reads c.work-end.ensures.pulled

@@ -1,6 +1,6 @@
 use Rattle.std.proofs.Common.{◌≤◌, ◌∙◌, refl, arith, length, drop}
 use Rattle.core_host.specs.declared.host.Port.TheVariants.{Notes}
-use Rattle.fixed_core.proofs.Pushes.{on_err}
+use Rattle.core_tool.proofs.Pushes.{on_err}
 use Rattle.core_tool.specs.Pieces.{joined}
 use Rattle.core_tool.proofs.Pieces.{Pushed-init, Pushed-step, Pushed-cut, Pushed-end, joined_end}
 use Rattle.core_tool.proofs.lines.push_pieces.Goals as goal
