@@ -1,5 +1,5 @@
 -- A core and its buses, side by side, are the core's run on what the buses drive and the buses' run on what the core drives.
-use Rattle.std.proofs.Common.{◌≡◌, ℕ, zero, suc, ◌+◌, ◌^◌, ◌<◌, Bool, true, false, eqb, List, [], ◌∷◌, ◌||◌, inl, inr, ◌⊎◌, length, replicate, All, refl, sym, ap, ◌∙◌, subst, arith, add-one}
+use Rattle.std.proofs.Common.{◌≡◌, ℕ, zero, suc, ◌+◌, ◌^◌, ◌<◌, Bool, true, false, cond, eqb, List, [], ◌∷◌, ◌&&◌, ◌||◌, inl, inr, ◌⊎◌, replicate, All, refl, sym, ap, ◌∙◌, subst, arith, add-one}
 use Rattle.std.proofs.lemmas.List.Elements.{All-replicate}
 use Rattle.core_words.specs.Names.{same_name}
 use Rattle.core_words.specs.Values.{one_if}
@@ -7,7 +7,8 @@ use Rattle.core_ports.specs.Ports.{CorePort, name_of, is_input, width_of}
 use Rattle.core_ports.specs.Ports as port
 use Rattle.core_ports.specs.Trace.{on_port, instruction_bus, data_bus}
 use Rattle.bus_law.specs.declared.signals.BusOut.{BusOut}
-use Rattle.bus_law.specs.Memory.{Memory, IsMemory}
+use Rattle.bus_law.specs.Memory.{Memory, IsMemory, store_of}
+use Rattle.bus_law.specs.Protocol.{is_accepted, is_given, is_write}
 use Rattle.bus_law.specs.Duties.{KeepsDuties}
 use Rattle.bus_law.specs.Honest.{Honest, Within}
 use Rattle.bus_law.specs.Answers.{driven, stepped, fetch_bus, access_bus}
@@ -15,32 +16,24 @@ use Rattle.bus_law.specs.Answers as answers
 use Rattle.bus_law.proofs.Runs.{run_is_honest}
 use Rattle.bus_law.proofs.RunsInTime.{run_is_within}
 use Rattle.verilog_flat.specs.declared.sim.FlatSim.{FlatSim}
-use Rattle.verilog_mean.specs.Look.{look, or_else}
 use Rattle.verilog_mean.specs.Names.{is_among}
 use Rattle.verilog_mean.specs.Plain.{Item, Plain}
 use Rattle.verilog_mean.specs.Plain.Item.{Wire, Reg, Array, Assign, Next, Reset, Write}
-use Rattle.verilog_mean.specs.Cycle.{State, value, value_to, next, width_in, from_source, item_source}
-use Rattle.verilog_mean.specs.Cycle.Source.{Nowhere}
+use Rattle.verilog_mean.specs.Cycle.{value, next, width_in}
 use Rattle.verilog_mean.specs.CorePorts.{HasCorePorts}
-use Rattle.verilog_mean.specs.Run.{IsInput, IsStart, AllZero, PortsFit, trace_of}
+use Rattle.verilog_mean.specs.Run.{IsInput, AllZero, PortsFit, trace_of}
 use Rattle.verilog_mean.specs.Run as run
 use Rattle.verilog_mean.specs.Zero.{zero_state, cells_in}
 use Rattle.verilog_sim.specs.Simulates.{AllFit, Shows, Simulates}
 use Rattle.verilog_sim.specs.Layouts.{layout_of, output_names}
-use Rattle.core_sim.specs.Joint.{Joint, joint_at, joint_next, outputs_of, reset_in, run_inputs, run_of}
-use Rattle.core_sim.specs.Bench.{IsCore, event_in}
+use Rattle.core_sim.specs.Joint.{Joint, joint_at, joint_inputs, joint_next, outputs_of, reset_in, run_inputs, run_of}
+use Rattle.core_sim.specs.Bench.{IsCore, event_in, write_in}
+use Rattle.core_sim.specs.Ends.{accepted_in}
 use Rattle.core_sim.specs.Over.{IsOverBuses}
-use Rattle.core_sim.proofs.CorePorts.{has_each, input_found, same_is}
+use Rattle.core_sim.proofs.CorePorts.{input_read, same_is}
 use Rattle.core_sim.proofs.Fits.{AreWords, words_at_start, words_next, fetched_word, accessed_word}
 
 -- ---- values of ports
-
--- an input has the value that it is given
-pub input_read : (m : Plain) (s : State) (ins : List ℕ → ℕ) (p : CorePort) → HasCorePorts m → is_input p ≡ true → value m s ins (name_of p) ≡ ins (name_of p)
-unfolding value value_to
-input_read m s ins p h i =
-    ap (λ o. from_source m s ins (name_of p) (value_to m s ins (length m.items)) (or_else o (or_else (look item_source m.items (name_of p)) Nowhere)))
-    (input_found p m.ports i (has_each m h p))
 
 -- an output is below 2 ^ width
 pub fit_among : (m : Plain) (val : List ℕ → ℕ) (x : List ℕ) (names : List (List ℕ)) → AllFit m val names → is_among x names ≡ true → val x < 2 ^ width_in m x
@@ -186,6 +179,31 @@ module _ (m : Plain) (memory : Memory) (delays : List ℕ) where
 pub told_is : (m : Plain) (memory : Memory) (delays : List ℕ) (k : ℕ)
     → event_in k (value m (joint_at m memory delays k).core (run_inputs m memory delays k)) ≡ event_in k (run_of m memory delays k)
 told_is m memory delays k = ap (event_in k) (sym (λ i x. value_at m memory delays k x i))
+
+-- a truth value as a number
+one_is : (b : Bool) → b ≡ eqb (one_if b) 1
+one_is true = refl
+one_is false = refl
+
+-- the write that a bench tells of a cycle is the one that the run's data bus accepts in it
+pub written_is : (m : Plain) (memory : Memory) (delays : List ℕ) (k : ℕ) → IsCore m → write_in m k (joint_at m memory delays k) ≡ accepted_in (run_of m memory delays) k
+unfolding is_write is_accepted is_given name_of
+written_is m memory delays zero core = refl
+written_is m memory delays (suc k) core = λ i. cond ((eqb (drives port.db_cmd_valid i) 1 && ready i) && eqb (drives port.db_cmd_write i) 1)
+    (store_of (drives port.db_cmd_addr i) (drives port.db_cmd_data i) (drives port.db_cmd_mask i) ∷ []) []
+  where
+    here : Joint
+    here = joint_at m memory delays (suc k)
+
+    drives : (p : CorePort) → value m here.core (joint_inputs (suc k) here) (name_of p) ≡ run_of m memory delays (suc k) (name_of p)
+    drives p = sym (value_at m memory delays (suc k) (name_of p))
+
+    input : joint_inputs (suc k) here (name_of port.db_cmd_ready) ≡ one_if (driven here.buses).db_cmd_ready
+    input = refl
+
+    ready : (driven here.buses).db_cmd_ready ≡ eqb (run_of m memory delays (suc k) (name_of port.db_cmd_ready)) 1
+    ready = one_is (driven here.buses).db_cmd_ready
+        ∙ ap (λ v. eqb v 1) (sym input ∙ sym (core.reads port.db_cmd_ready refl here.core (joint_inputs (suc k) here)) ∙ drives port.db_cmd_ready)
 
 pub joint_later : (m : Plain) (memory : Memory) (delays : List ℕ) (k : ℕ) → joint_next m k (joint_at m memory delays k) ≡ joint_at m memory delays (k + 1)
 unfolding joint_at

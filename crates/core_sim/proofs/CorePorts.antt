@@ -14,8 +14,8 @@ use Rattle.verilog_mean.specs.declared.refusal.MeanRefusal.{MeanRefusal}
 use Rattle.verilog_mean.specs.Look.{look, or_else, pick_if, put_if}
 use Rattle.verilog_mean.specs.Plain.{Port, Plain}
 use Rattle.verilog_mean.specs.Plain.Port.{In, Out}
-use Rattle.verilog_mean.specs.Cycle.{Source, port_width, port_source}
-use Rattle.verilog_mean.specs.Cycle.Source.{Outside}
+use Rattle.verilog_mean.specs.Cycle.{Source, State, from_source, item_source, port_width, port_source, value, value_to}
+use Rattle.verilog_mean.specs.Cycle.Source.{Nowhere, Outside}
 use Rattle.verilog_mean.specs.CorePorts.{is_port, has_port, has_ports, HasCorePorts}
 use Rattle.verilog_mean.specs.Declarations.{Declaration, declared_ports, declared_items}
 use Rattle.verilog_mean.specs.Erase.{plain_port, plain_ports, plain_tree, range_width}
@@ -341,6 +341,15 @@ inputs_fit r b [] h i d a = tt
 inputs_fit r b (In w name ∷ qs) h i d a = (given_fits r b w name h i d (λ p. (a p).0) all_ports, inputs_fit r b qs h i d (λ p. (a p).1))
 inputs_fit r b (Out w name ∷ qs) h i d a = inputs_fit r b qs h i d (λ p. (a p).1)
 
+-- ---- what an input reads
+
+-- an input has the value that it is given
+pub input_read : (m : Plain) (s : State) (ins : List ℕ → ℕ) (p : CorePort) → HasCorePorts m → is_input p ≡ true → value m s ins (name_of p) ≡ ins (name_of p)
+unfolding value value_to
+input_read m s ins p h i =
+    ap (λ o. from_source m s ins (name_of p) (value_to m s ins (length m.items)) (or_else o (or_else (look item_source m.items (name_of p)) Nowhere)))
+    (input_found p m.ports i (has_each m h p))
+
 -- ---- all of it
 
 pub all_agree : (t : Tree) → IsSound t → HasCorePorts (plain_tree t) → (p : CorePort) → Agrees p (plain_ports t.ports)
@@ -351,4 +360,5 @@ is_core t s h = record {
   fits = λ r b x y z. inputs_fit r b (plain_ports t.ports) x y z (all_agree t s h);
   outputs = λ p o. output_found p (plain_ports t.ports) o (has_each (plain_tree t) h p);
   widths = λ p o. width_found p (plain_ports t.ports) _ (all_agree t s h p) (has_each (plain_tree t) h p);
+  reads = λ p o state ins. input_read (plain_tree t) state ins p h o;
 }

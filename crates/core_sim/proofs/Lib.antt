@@ -5,3 +5,4 @@ pub mod Lists
 pub mod Outputs
 pub mod Steps
 pub mod Events
+pub mod Agree

@@ -4,12 +4,14 @@ use Rattle.std.proofs.Math.Pow.{pow_mono}
 use Rattle.std.proofs.lemmas.List.{get_or-map}
 use Rattle.core_ports.specs.Ports.{CorePort, name_of, is_input, width_of}
 use Rattle.core_ports.specs.Ports as port
+use Rattle.bus_law.specs.Answers.{driven}
+use Rattle.verilog_mean.specs.Cycle.{value}
 use Rattle.verilog_mean.specs.Plain.{Plain}
 use Rattle.verilog_sim.specs.Simulates.{AllFit}
 use Rattle.verilog_sim.specs.Layouts.{output_names}
 use Rattle.core_sim.specs.declared.ports.Places.{Places}
-use Rattle.core_sim.specs.Joint.{outputs_of}
-use Rattle.core_sim.specs.Bench.{IsCore, IsPlace, HasPlaces, word_of, flag_of, bus_out_at, event_at, event_in}
+use Rattle.core_sim.specs.Joint.{Joint, joint_inputs, outputs_of}
+use Rattle.core_sim.specs.Bench.{IsCore, IsPlace, HasPlaces, accepted, word_of, flag_of, bus_out_at, event_at, event_in, write_in}
 use Rattle.core_sim.proofs.Bridge.{output_fits}
 
 small : (v : ℕ) → v < 2 ^ 32 → v % 2 ^ 32 ≡ v
@@ -50,3 +52,13 @@ module _ (m : Plain) (val : List ℕ → ℕ) (outs : List ℕ) (p : Places) (e 
       value = word port.ev_value p.ev_value refl (omega arith) h.ev_value i;
       cause = word port.ev_cause p.ev_cause refl (omega arith) h.ev_cause i;
     })) None
+
+-- the write of a cycle
+pub write_none : (m : Plain) (j : Joint) (number : ℕ) → number ≡ 0 → write_in m number j ≡ []
+write_none m j zero e = refl
+write_none m j (suc k) e = cc
+
+pub write_is : (m : Plain) (j : Joint) (number : ℕ) → (number ≡ 0 → ⊥)
+    → write_in m number j ≡ accepted (driven j.buses) (outputs_of (value m j.core (joint_inputs number j)))
+write_is m j zero n = absurd (n refl)
+write_is m j (suc k) n = refl

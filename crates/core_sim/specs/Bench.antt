@@ -1,23 +1,27 @@
 -- A simulator of a core and its buses, joined port by port.
-use Rattle.std.specs.Prelude.{◌≡◌, ℕ, zero, suc, ◌^◌, ◌%◌, ◌<◌, Bool, true, false, cond, eqb, List, [], length, get_or, map, vec_len, Option, Some, None}
+use Rattle.std.specs.Prelude.{◌≡◌, ℕ, zero, suc, ◌^◌, ◌%◌, ◌<◌, ◌+◌, Bool, true, false, cond, eqb, ◌&&◌, List, [], ◌∷◌, length, get_or, map, vec_len, Option, Some, None}
 use Rattle.core_words.specs.Values.{one_if}
 use Rattle.core_ports.specs.Ports.{CorePort, name_of, is_input, width_of}
 use Rattle.core_ports.specs.Ports as port
 use Rattle.core_ports.specs.Trace.{PortEvent}
 use Rattle.bus_law.specs.declared.signals.BusIn.{BusIn}
 use Rattle.bus_law.specs.declared.signals.BusOut.{BusOut}
+use Rattle.bus_law.specs.Memory.{Store, lane_of, store_of}
+use Rattle.bus_law.specs.Answers.{driven}
 use Rattle.verilog_mean.specs.Names.{is_among}
 use Rattle.verilog_mean.specs.Plain.{Plain}
-use Rattle.verilog_mean.specs.Cycle.{value, width_in}
+use Rattle.verilog_mean.specs.Cycle.{State, value, width_in}
 use Rattle.verilog_mean.specs.Run.{PortsFit}
 use Rattle.verilog_sim.specs.Simulates.{AllFit, Shows, Simulates}
 use Rattle.verilog_sim.specs.Layouts.{layout_of, input_names, output_names}
 use Rattle.core_sim.specs.declared.event.Event.{Event}
+use Rattle.core_sim.specs.declared.ended.Ended.{Ended}
+use Rattle.core_sim.specs.declared.ended.Ended.TheVariants.{Exit, Stopped}
 use Rattle.core_sim.specs.declared.ports.InputPort.{InputPort}
 use Rattle.core_sim.specs.declared.ports.InputPort.TheVariants.{Reset, IbCmdReady, IbRspValid, IbRspError, IbRspData, DbCmdReady, DbRspValid, DbRspError, DbRspData, Zero}
 use Rattle.core_sim.specs.declared.ports.Places.{Places}
 use Rattle.core_sim.specs.declared.bench.Bench.{Bench}
-use Rattle.core_sim.specs.Joint.{Joint, inputs_of, joint_inputs, joint_next}
+use Rattle.core_sim.specs.Joint.{Joint, inputs_of, joint_inputs, joint_next, outputs_of}
 use Rattle.core_sim.specs.Lines.{event_line}
 
 -- ---- events
@@ -40,11 +44,44 @@ abbrev pub event_in : (cycle : ℕ) → (List ℕ → ℕ) → Option Event
 event_in zero val = None
 event_in (suc k) val = cond (eqb (val (name_of port.ev_valid)) 1) (Some (event_of val)) None
 
--- the line of an event, nothing where there is none or none is wanted
-abbrev pub shown : (trace : Bool) → Option Event → List ℕ
-shown true (Some e) = event_line (port_event_of e)
-shown true None = []
-shown false e = []
+abbrev pub retires : Option Event → Bool
+retires None = false
+retires (Some e) = eqb e.kind 0
+
+-- what is pushed in a cycle with this event, where these bytes are pending: the line of the event where lines are wanted, and else
+-- at a retirement the bytes
+abbrev pub shown : (trace : Bool) → Option Event → (pending : List ℕ) → List ℕ
+shown true (Some e) pending = event_line (port_event_of e)
+shown true None pending = []
+shown false e pending = cond (retires e) pending []
+
+-- how a run ends with an event of this kind, if it does, where this exit is pending
+abbrev pub end_by : (kind : ℕ) → (code : Option ℕ) → (cause pc events cycles : ℕ) → Option Ended
+end_by zero None cause pc events cycles = None
+end_by zero (Some code) cause pc events cycles = Some (Exit code events cycles)
+end_by (suc zero) code cause pc events cycles = None
+end_by (suc (suc zero)) code cause pc events cycles = None
+end_by (suc (suc (suc zero))) code cause pc events cycles = Some (Stopped cause pc events cycles)
+end_by (suc (suc (suc (suc n)))) code cause pc events cycles = None
+
+abbrev pub end_with : Option Event → (code : Option ℕ) → (events cycles : ℕ) → Option Ended
+end_with None code events cycles = None
+end_with (Some e) code events cycles = end_by e.kind code e.cause e.pc events cycles
+
+-- ---- writes
+
+-- a word with 0 in the lanes that a mask leaves out
+abbrev pub masked : (word mask : ℕ) → ℕ
+masked word mask = lane_of word mask 0 + lane_of word mask 1 + lane_of word mask 2 + lane_of word mask 3
+
+-- the write that the data bus accepts, if it accepts one, where the bus and the core drive these
+abbrev pub accepted : BusIn → BusOut → List Store
+accepted bus out = cond ((out.db_cmd_valid && bus.db_cmd_ready) && out.db_cmd_write) (store_of out.db_cmd_addr out.db_cmd_data out.db_cmd_mask ∷ []) []
+
+-- the same in a cycle; outputs in cycle 0 count as nothing
+abbrev pub write_in : Plain → (cycle : ℕ) → Joint → List Store
+write_in m zero j = []
+write_in m (suc k) j = accepted (driven j.buses) (outputs_of (value m j.core (joint_inputs (suc k) j)))
 
 -- ---- what an input is given
 
@@ -134,6 +171,7 @@ pub record IsCore (m : Plain) : Type 0 where
   pub fits : (reset : ℕ) (buses : BusIn) → reset < 2 → buses.ib_rsp_data < 2 ^ 32 → buses.db_rsp_data < 2 ^ 32 → PortsFit m.ports (inputs_of reset buses)
   pub outputs : (p : CorePort) → is_input p ≡ false → is_among (name_of p) (output_names m.ports) ≡ true
   pub widths : (p : CorePort) → is_input p ≡ false → width_in m (name_of p) ≡ width_of p
+  pub reads : (p : CorePort) → is_input p ≡ true → (s : State) (ins : List ℕ → ℕ) → value m s ins (name_of p) ≡ ins (name_of p)
 
 -- there is room for the inputs and the outputs
 pub record IsReady (b : Bench) : Type 0 where

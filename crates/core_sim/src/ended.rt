@@ -1,8 +1,8 @@
 use core_host::List;
 use thiserror::Error;
 
-/// What a run is to do: whether it writes the lines of its events, of how many cycles it is at most, and the
-/// delays, in cycles, by which the buses answer in turn.
+/// What a run is to do: whether it writes the lines of its events in place of the host text, of how many cycles it is
+/// at most, and the delays, in cycles, by which the buses answer in turn.
 #[derive(Debug, Drop)]
 pub struct RunOpts {
     pub trace: bool,
@@ -13,7 +13,7 @@ pub struct RunOpts {
 /// How a run ended. The cycle of the end counts in `cycles`, an event that ended it in `events`.
 #[derive(Clone, Copy, Debug, PartialEq, Eq)]
 pub enum Ended {
-    /// The program asked for its end with this code. It cannot do so yet.
+    /// The program asked for its end with this code.
     Exit {
         code: u32,
         events: u64,
@@ -48,10 +48,10 @@ pub enum SimRefusal {
     /// The core broke a duty on a bus in this cycle. No run answers so yet.
     #[error("the core broke a duty on a bus")]
     Breach { cycle: u64, bus: BusName, duty: u32 },
-    /// A push of a line failed.
-    #[error("a line could not be written")]
+    /// A push of the text failed.
+    #[error("the text could not be written")]
     WriteFault,
-    /// Memory ran out before the first line.
+    /// Memory ran out before the first push.
     #[error("no memory")]
     NoMemory,
 }

@@ -1,4 +1,4 @@
-ghost use Rattle.std.specs.Prelude.{◌≡◌, ◌≤◌, ◌<◌, ◌⊎◌, ℕ, Err, IfOk, IfErr, List, OnErr, OnOk, length};
+ghost use Rattle.std.specs.Prelude.{◌≡◌, ◌≤◌, ◌<◌, ◌⊎◌, ℕ, false, Err, IfOk, IfErr, List, [], OnErr, OnOk, length, vec_capacity, vec_len};
 ghost use Rattle.core_host.specs.declared.host.Port.{Port};
 ghost use Rattle.core_host.specs.declared.host.Port.TheVariants.{Main};
 ghost use Rattle.core_host.specs.Outside.{Rose, Appends, IsCut};
@@ -7,7 +7,8 @@ ghost use Rattle.verilog_mean.specs.Checked.{IsChecked};
 ghost use Rattle.verilog_mean.specs.CorePorts.{HasCorePorts};
 ghost use Rattle.verilog_mean.specs.Erase.{plain_tree};
 ghost use Rattle.verilog_mean.specs.Plain.{Plain};
-ghost use Rattle.core_sim.specs.Bench.{IsBench, IsCore, IsReady, shown};
+ghost use Rattle.core_sim.specs.Bench.{IsBench, IsCore, IsReady, end_with, shown};
+ghost use Rattle.core_sim.specs.Pending.{IsKept};
 ghost use Rattle.core_sim.specs.Joint.{joint_start, run_of};
 ghost use Rattle.core_sim.specs.Ends.{end_of, run_text};
 ghost use Rattle.core_sim.specs.Over.{IsOverBuses};
@@ -16,14 +17,16 @@ use crate::bench::Bench;
 use crate::ended::{Ended, RunOpts, SimRefusal};
 use crate::event::Event;
 use crate::line::line_of;
+use crate::pending::Pending;
 use bus_law::Mem;
 use core_host::{Host, HostFailed, Port, push_all};
 use std::alloc::Global;
 use verilog_mean::Checked;
 
-/// Runs a core over buses that answer as this memory, from contents that are all 0, until an event stops it or
-/// its cycles have passed, and pushes the lines of its events on the main port where they are wanted. Memory is
-/// taken before the first line alone.
+/// Runs a core over buses that answer as this memory, from contents that are all 0, until the program asks for its
+/// end, an event stops the core, or its cycles have passed. Pushes the host text on the main port, or the lines of the
+/// events where they are wanted. All memory is taken before the first cycle, a byte for each cycle among it where the
+/// host text is pushed.
 pub fn run_tree<H: Host>(
     alloc: Global,
     checked: &Checked,
@@ -55,20 +58,30 @@ pub fn run_tree<H: Host>(
         Ok(bench) => bench,
         Err(_) => return Err(SimRefusal::NoMemory),
     };
-    match run_cycles(&mut bench, opts.trace, opts.cycles, host) {
+    // In a cycle at most one write is accepted, so this many bytes can be pending.
+    let room = if opts.trace { 0 } else { opts.cycles };
+    let mut pending = match Pending::with_room(alloc, room as usize) {
+        Ok(pending) => pending,
+        Err(_) => return Err(SimRefusal::NoMemory),
+    };
+    match run_cycles(&mut bench, &mut pending, opts.trace, opts.cycles, host) {
         Ok(end) => Ok(end),
         Err(_) => Err(SimRefusal::WriteFault),
     }
 }
 
-/// Runs a bench from cycle 0 on.
+/// Runs a bench from cycle 0 on, with no write pending and room for a byte in each cycle, where bytes are wanted.
 fn run_cycles<H: Host>(
     bench: &mut Bench,
+    pending: &mut Pending,
     trace: bool,
     cycles: u64,
     host: &mut H,
 ) -> Result<Ended, HostFailed>
-    requires { IsReady bench.old }
+    requires ready { IsReady bench.old }
+    requires empty { IsKept trace [] pending.old }
+    requires none { vec_len pending.old.bytes ≡ 0 }
+    requires room { trace ≡ false → cycles ≤ vec_capacity pending.old.bytes }
     ensures end { IfOk result (λ e. (m : Plain) (memory : Memory) (delays : List ℕ) → IsCore m → IsBench m (joint_start m memory delays) bench.old
         → e ≡ end_of (run_of m memory delays) cycles) }
     ensures whole { OnOk result ((m : Plain) (memory : Memory) (delays : List ℕ) → IsCore m → IsBench m (joint_start m memory delays) bench.old
@@ -87,26 +100,48 @@ fn run_cycles<H: Host>(
     let mut events: u64 = 0;
     for cycle in 0..cycles {
         let told = bench.cycle(cycle);
-        push_event(host, trace, told)?;
-        if let Some(event) = told {
-            events += 1;
-            if event.kind == 3 {
-                return Ok(Ended::Stopped {
-                    cause: event.cause,
-                    pc: event.pc,
-                    events,
-                    cycles: cycle + 1,
-                });
-            }
+        push_told(host, trace, told.event, pending.bytes.as_slice())?;
+        events += u64::from(told.event.is_some());
+        if let Some(end) = end_with(told.event, pending.code, events, cycle + 1) {
+            return Ok(end);
         }
+        pending.pass(trace, &told);
     }
     Ok(Ended::CyclesEnded { events, cycles })
 }
 
-/// Pushes the line of an event on the main port, where it is wanted and there is one.
-fn push_event<H: Host>(host: &mut H, trace: bool, event: Option<Event>) -> Result<(), HostFailed>
-    ensures whole { OnOk result (Appends (H.pushed host.old Main) (shown trace event) (H.pushed host.new Main)) }
-    ensures part { OnErr result (IsCut (H.pushed host.old Main) (shown trace event) (H.pushed host.new Main)) }
+/// How a run ends with this event, if it does, where this exit is pending. The counts are those at the end of the
+/// event's cycle.
+fn end_with(event: Option<Event>, code: Option<u32>, events: u64, cycles: u64) -> Option<Ended>
+    ensures { result ≡ end_with event code events cycles }
+{
+    let event = event?;
+    match event.kind {
+        0 => Some(Ended::Exit {
+            code: code?,
+            events,
+            cycles,
+        }),
+        3 => Some(Ended::Stopped {
+            cause: event.cause,
+            pc: event.pc,
+            events,
+            cycles,
+        }),
+        _ => None,
+    }
+}
+
+/// Pushes what a cycle with this event shows on the main port: its line, where lines are wanted, and else at a
+/// retirement the pending bytes.
+fn push_told<H: Host>(
+    host: &mut H,
+    trace: bool,
+    event: Option<Event>,
+    pending: &[u8],
+) -> Result<(), HostFailed>
+    ensures whole { OnOk result (Appends (H.pushed host.old Main) (shown trace event pending.now) (H.pushed host.new Main)) }
+    ensures part { OnErr result (IsCut (H.pushed host.old Main) (shown trace event pending.now) (H.pushed host.new Main)) }
     ensures cause { OnErr result (Rose (H.write_faults host.old) (H.write_faults host.new)) }
     ensures others { (p : Port) → ¬ (p ≡ Main) → H.pushed host.new p ≡ H.pushed host.old p }
     ensures left { (m : ℕ) → H.left host.new m ≡ H.left host.old m }
@@ -116,11 +151,9 @@ fn push_event<H: Host>(host: &mut H, trace: bool, event: Option<Event>) -> Resul
     ensures reads { H.read_faults host.old ≤ H.read_faults host.new }
     ensures writes { H.write_faults host.old ≤ H.write_faults host.new }
 {
-    if !trace {
-        return Ok(());
-    }
     match event {
-        Some(event) => push_all(host, Port::Main, line_of(&event).as_slice()),
-        None => Ok(()),
+        Some(event) if trace => push_all(host, Port::Main, line_of(&event).as_slice()),
+        Some(event) if event.kind == 0 => push_all(host, Port::Main, pending),
+        _other => Ok(()),
     }
 }

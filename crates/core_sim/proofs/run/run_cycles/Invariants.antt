@@ -1,10 +1,13 @@
-use Rattle.std.proofs.Common.{◌≡◌, ◌≤◌, ℕ, List}
+use Rattle.std.proofs.Common.{◌≡◌, ◌≤◌, ℕ, List, false}
+use Rattle.std.specs.Prelude.{vec_capacity, vec_len}
 use Rattle.core_host.specs.declared.host.Port.{Port}
 use Rattle.core_host.specs.declared.host.Port.TheVariants.{Main}
 use Rattle.bus_law.specs.Memory.{Memory}
 use Rattle.verilog_mean.specs.Plain.{Plain}
 use Rattle.core_sim.specs.Joint.{joint_at, joint_start, run_of}
 use Rattle.core_sim.specs.Bench.{IsBench, IsCore, IsReady}
+use Rattle.core_sim.specs.Ends.{unsettled}
+use Rattle.core_sim.specs.Pending.{IsKept}
 use Rattle.core_sim.proofs.Events.{IsAt}
 use Rattle.core_sim.proofs.run.run_cycles.Given as goal
 
@@ -16,6 +19,10 @@ invariant-loop-cycle g l = record {
       → IsBench m (joint_at m memory delays l.cycle) l.bench;
   at : (m : Plain) (memory : Memory) (delays : List ℕ) → IsCore m → IsBench m (joint_start m memory delays) l.initial.bench
       → IsAt (run_of m memory delays) l.trace l.cycles l.cycle l.events (g.H.Host.pushed l.initial.host Main) (g.H.Host.pushed l.host Main);
+  kept : (m : Plain) (memory : Memory) (delays : List ℕ) → IsCore m → IsBench m (joint_start m memory delays) l.initial.bench
+      → IsKept l.trace (unsettled (run_of m memory delays) l.cycle) l.pending;
+  len : vec_len l.pending.bytes ≤ l.cycle;
+  room : l.trace ≡ false → l.cycles ≤ vec_capacity l.pending.bytes;
   others : (p : Port) → ¬ (p ≡ Main) → g.H.Host.pushed l.host p ≡ g.H.Host.pushed l.initial.host p;
   left : (m : ℕ) → g.H.Host.left l.host m ≡ g.H.Host.left l.initial.host m;
   files : g.H.Host.files l.host ≡ g.H.Host.files l.initial.host;

@@ -31,3 +31,6 @@ returns-clause-cut g c = λ fault. c.in-Err-run_cycles.ensures.part (plain_tree 
 pub returns-clause-over : goal.returns-clause-over
 returns-clause-over g c = λ ok. is_over_buses (plain_tree c.args.checked.now.tree) c.args.mem c.args.opts.now.delays c.in-Ok.bench.sim.flat
     (is_core c.args.checked.now.tree c.requires.checked.sound c.requires.ports) c.in-Ok.ensures.memory c.in-Ok.ensures.bench.simulates _ _ c.in-Ok.ensures.bench.shows c.requires.ports
+
+pub run_cycles-requires-clause-empty : goal.run_cycles-requires-clause-empty
+run_cycles-requires-clause-empty g c = c.in-Ok-with_room.ensures.empty c.args.opts.now.trace
