@@ -48,4 +48,4 @@ module _ {B : Type 0} (seen : Seen B) (result : Status) where
 
   pub runs_clause : IsAnswered result seen → MustRun seen → EndsByRun result
   runs_clause (inl h) must = run_exact seen result h.line must h.happened
-  runs_clause (inr (fault, cut)) must = inr (inr (inl fault))
+  runs_clause (inr (fault, cut)) must = inr (inr (inr (inl fault)))

@@ -14,7 +14,7 @@ use Rattle.core_sim.specs.Joint.{run_of}
 use Rattle.core_sim.specs.Ends.{end_of, run_text}
 use Rattle.core_sim.specs.Over.{IsOverBuses}
 use Rattle.core_tool.specs.declared.ends.CallEnd.{CallEnd}
-use Rattle.core_tool.specs.declared.ends.CallEnd.TheVariants.{Written, Accepted, BadWords, Refused, RulesRefused, BadFile, BadImage, OutOfMemory, Unwritten, CyclesEnded, Stopped}
+use Rattle.core_tool.specs.declared.ends.CallEnd.TheVariants.{Written, Accepted, BadWords, Refused, RulesRefused, BadFile, BadImage, OutOfMemory, Unwritten, Exited, CyclesEnded, Stopped}
 use Rattle.core_tool.specs.declared.options.Options.{Options}
 use Rattle.core_tool.specs.Words.{Form, Gen, Run, Rules}
 use Rattle.core_tool.specs.Call.{Boxes, Call, Outside, Seen}
@@ -59,6 +59,7 @@ config_ends seen name BadWords named same boxes h = absurd h
 config_ends seen name (RulesRefused refusal) named same boxes h = absurd h
 config_ends seen name (BadImage fault) named same boxes h = absurd h
 config_ends seen name Unwritten named same boxes h = absurd h
+config_ends seen name (Exited code events cycles) named same boxes h = absurd h
 config_ends seen name (CyclesEnded events cycles) named same boxes h = absurd h
 config_ends seen name (Stopped cause pc events cycles) named same boxes h = absurd h
 
@@ -84,6 +85,7 @@ judged seen config (Refused refusal) tries given same h = absurd h
 judged seen config (BadImage fault) tries given same h = absurd h
 judged seen config BadFile tries given same h = absurd h
 judged seen config Unwritten tries given same h = absurd h
+judged seen config (Exited code events cycles) tries given same h = absurd h
 judged seen config (CyclesEnded events cycles) tries given same h = absurd h
 judged seen config (Stopped cause pc events cycles) tries given same h = absurd h
 
@@ -116,7 +118,7 @@ module _ {B : Type 0} (name : List ℕ) (files : Option Files) (boxes : Boxes B)
 
   pub written : (text : List ℕ) → Gives gen_call config → IsCoreText boxes config text → Appends old.main text new.main
       → IsEnd (record { call = gen_call; old = old; new = new }) Written
-  written text given core main = record { text = text; is_text = gen_text text given core; main = main; is_line = refl }
+  written text given core main = record { text = text; is_text = (gen_text text given core, refl); main = main }
 
   pub unwritten : (text : List ℕ) → Gives gen_call config → IsCoreText boxes config text → IsCut old.main text new.main
       → Rose old.write_faults new.write_faults → IsEnd (record { call = gen_call; old = old; new = new }) Unwritten
@@ -131,7 +133,7 @@ module _ {B : Type 0} (name : List ℕ) (files : Option Files) (boxes : Boxes B)
 
   pub accepted : Gives rules_call config → HaveTakenAll boxes config → Appends old.main (codes "accepted\n") new.main
       → IsEnd (record { call = rules_call; old = old; new = new }) Accepted
-  accepted given taken main = record { text = codes "accepted\n"; is_text = rules_text given taken; main = main; is_line = refl }
+  accepted given taken main = record { text = codes "accepted\n"; is_text = (rules_text given taken, refl); main = main }
 
   pub unaccepted : Gives rules_call config → HaveTakenAll boxes config → IsCut old.main (codes "accepted\n") new.main
       → Rose old.write_faults new.write_faults → IsEnd (record { call = rules_call; old = old; new = new }) Unwritten
@@ -169,6 +171,7 @@ image_ends seen image c BadWords named tries passes same h = absurd h
 image_ends seen image c (RulesRefused refusal) named tries passes same h = absurd h
 image_ends seen image c (Refused refusal) named tries passes same h = absurd h
 image_ends seen image c Unwritten named tries passes same h = absurd h
+image_ends seen image c (Exited code events cycles) named tries passes same h = absurd h
 image_ends seen image c (CyclesEnded events cycles) named tries passes same h = absurd h
 image_ends seen image c (Stopped cause pc events cycles) named tries passes same h = absurd h
 
@@ -184,6 +187,7 @@ image_end_earlier name mem files files' before mid now BadWords same less h = h
 image_end_earlier name mem files files' before mid now (RulesRefused refusal) same less h = h
 image_end_earlier name mem files files' before mid now (Refused refusal) same less h = h
 image_end_earlier name mem files files' before mid now Unwritten same less h = h
+image_end_earlier name mem files files' before mid now (Exited code events cycles) same less h = h
 image_end_earlier name mem files files' before mid now (CyclesEnded events cycles) same less h = h
 image_end_earlier name mem files files' before mid now (Stopped cause pc events cycles) same less h = h
 
@@ -227,6 +231,17 @@ module _ {B : Type 0} (name image : List ℕ) (options : Options) (files : Optio
   pub run_ends : (config : Config) (t : Tree) (m : Memory) (before : Option (List ℕ)) (mid : ℕ) (end : CallEnd)
       → IsSetUp run_call image config t m → before ≡ old.main → old.write_faults ≤ mid
       → IsSimulated (plain_tree t) m options before new.main mid new.write_faults end → IsEnd run_seen end
+  run_ends config t m before mid (Exited code events cycles) set same less h = record {
+    text = set_text options t m;
+    is_text = record {
+      code = code;
+      events = events;
+      cycles = cycles;
+      run = run_text_of run_call image options config t m (run_end.Exit code events cycles) set h.ends h.over;
+      is_line = refl;
+    };
+    main = subst (λ p. Appends p (set_text options t m) new.main) same h.text;
+  }
   run_ends config t m before mid (CyclesEnded events cycles) set same less h = record {
     events = events;
     cycles = cycles;

@@ -8,6 +8,7 @@ use Rattle.core_config.specs.Config.{config_of}
 use Rattle.plug_api.specs.declared.refusal.RuleRefusal.{RuleRefusal}
 use Rattle.plug_api.proofs.Verdicts.{refusal_excludes}
 use Rattle.core_sim.specs.declared.ended.Ended.{Ended}
+use Rattle.core_sim.specs.declared.ended.Ended.TheVariants as run_end
 use Rattle.core_tool.specs.declared.ends.ImageFault.{ImageFault}
 use Rattle.core_tool.specs.declared.status.Status.{Status}
 use Rattle.core_tool.specs.declared.status.Status.TheVariants as status
@@ -15,7 +16,7 @@ use Rattle.core_tool.specs.Words.{Form, Gen, Run, Rules}
 use Rattle.core_tool.specs.Call.{Call, Seen, ReadFailed}
 use Rattle.core_tool.specs.Boxes.{Accept, Refuse, RulesHold, TriesRules}
 use Rattle.core_tool.specs.Files.{ForConfig, ForFile, ForImage, Gives, HoldsConfig, HoldsFile, HoldsImage, MissesConfig, MissesFile, Passes, SaysConfig, config_name, image_fault, image_name}
-use Rattle.core_tool.specs.Texts.{IsRunTextFor, IsTextFor}
+use Rattle.core_tool.specs.Texts.{IsDoneText, IsRunTextFor, IsTextFor}
 use Rattle.core_tool.specs.Answers.{AsksForText, EndsByRun, HasEnded, IsConfigUnread, IsCutOff, IsImageMissing, IsImageUnread, MustBeConfigRefused, MustBeDone, MustBeImageRefused, MustBeReadFault, MustBeRulesRefused, MustBeUsage, MustRun}
 use Rattle.core_tool.proofs.Calls.{image_fault-fits}
 
@@ -136,6 +137,18 @@ run_facts (Some (Run config image options)) call ended text h = record {
 }
 run_facts (Some (Rules name)) call ended text h = absurd h
 
+-- what is done is a text that is no run's, or a run
+pub done_facts : {B : Type 0} (form : Option Form) (call : Call B) (text line : List ℕ) → IsDoneText form call text line → TextFacts form call ⊎ RunFacts form call
+done_facts None call text line h = absurd h
+done_facts (Some (Gen name)) call text line h = inl (text_facts (Some (Gen name)) call text h.0)
+done_facts (Some (Run config image options)) call text line h = inr (run_facts (Some (Run config image options)) call (run_end.Exit h.code h.events h.cycles) text h.run)
+done_facts (Some (Rules name)) call text line h = inl (text_facts (Some (Rules name)) call text h.0)
+
+-- so it has a configuration
+done_passes : {B : Type 0} (form : Option Form) (call : Call B) → TextFacts form call ⊎ RunFacts form call → (config : Config) × Passes call config
+done_passes form call (inl text) = (text.config, text.passes)
+done_passes form call (inr run) = (run.config, run.passes)
+
 image_accepted : (config : Config) (image : List ℕ) (fault : ImageFault) → IsConfig config → length image ≤ config.mem.size
     → image_fault config.mem image ≡ Some fault → ⊥
 image_accepted config image fault is fits e = let none = image_fault-fits config.mem image is.mem.size_at_most fits in cc
@@ -151,6 +164,13 @@ module _ {B : Type 0} (seen : Seen B) where
 
   abbrev TextOf : Type 0
   TextOf = TextFacts asked.form asked
+
+  -- a call that is done has a configuration
+  abbrev DoneOf : Type 0
+  DoneOf = (config : Config) × Passes asked config
+
+  done_of : (text line : List ℕ) → IsDoneText asked.form asked text line → DoneOf
+  done_of text line h = done_passes asked.form asked (done_facts asked.form asked text line h)
 
   -- the configuration is held and no fault of reading came
   config_unread : (bytes : List ℕ) → IsConfigUnread seen → HoldsConfig asked bytes → ¬ (ReadFailed seen) → ⊥
@@ -186,7 +206,7 @@ module _ {B : Type 0} (seen : Seen B) where
 
   -- 2
   pub usage_exact : (s : Status) (line : List ℕ) → MustBeUsage seen → HasEnded s seen line → (s ≡ status.Usage) ⊎ IsCutOff s
-  usage_exact status.Done line must h = let text : TextOf = text_facts asked.form asked h.text h.is_text in absurd (no_call_given asked text.config must text.passes.gives)
+  usage_exact status.Done line must h = let d : DoneOf = done_of h.text line h.is_text in absurd (no_call_given asked d.0 must d.1.gives)
   usage_exact status.Usage line must h = inl refl
   usage_exact status.ConfigRefused line must h = absurd (no_call asked h.refused.name must h.refused.is_name)
   usage_exact status.RulesRefused line must h = absurd (no_call_given asked h.config must h.gives)
@@ -204,7 +224,7 @@ module _ {B : Type 0} (seen : Seen B) where
   -- 3
   pub config_refused_exact : (s : Status) (line : List ℕ) → MustBeConfigRefused seen → HasEnded s seen line → (s ≡ status.ConfigRefused) ⊎ IsCutOff s
   config_refused_exact status.Done line must h =
-      let text : TextOf = text_facts asked.form asked h.text h.is_text in absurd (not_given asked text.config must.bytes text.passes.gives must.held must.refused)
+      let d : DoneOf = done_of h.text line h.is_text in absurd (not_given asked d.0 must.bytes d.1.gives must.held must.refused)
   config_refused_exact status.Usage line must h =
       let found = held_name (config_name asked.form) asked.files must.bytes must.held in absurd (no_call asked found.0 h.no_form found.1)
   config_refused_exact status.ConfigRefused line must h = inl refl
@@ -225,7 +245,7 @@ module _ {B : Type 0} (seen : Seen B) where
   -- 4
   pub rules_refused_exact : (s : Status) (line : List ℕ) → MustBeRulesRefused seen → HasEnded s seen line → (s ≡ status.RulesRefused) ⊎ IsCutOff s
   rules_refused_exact status.Done line must h =
-      let text : TextOf = text_facts asked.form asked h.text h.is_text in absurd (passed_refused asked text.config must.config must.refusal text.passes must.says must.tries must.refused)
+      let d : DoneOf = done_of h.text line h.is_text in absurd (passed_refused asked d.0 must.config must.refusal d.1 must.says must.tries must.refused)
   rules_refused_exact status.Usage line must h = absurd (no_call_says asked must.config h.no_form must.says)
   rules_refused_exact status.ConfigRefused line must h = absurd (not_refused asked must.config h.refusal h.refused must.says)
   rules_refused_exact status.RulesRefused line must h = inl refl
@@ -255,10 +275,13 @@ module _ {B : Type 0} (seen : Seen B) where
 
   -- 5
   pub image_refused_exact : (s : Status) (line : List ℕ) → MustBeImageRefused seen → HasEnded s seen line → (s ≡ status.ImageRefused) ⊎ IsCutOff s
-  image_refused_exact status.Done line must h =
-      let text : TextOf = text_facts asked.form asked h.text h.is_text in
-      let found = held_name (image_name asked.form) asked.files must.image must.held in
-      absurd (text.no_image found.0 found.1)
+  image_refused_exact status.Done line must h = absurd (by_text (done_facts asked.form asked h.text line h.is_text))
+    where
+      by_text : TextOf ⊎ RunOf → ⊥
+      by_text (inl text) =
+          let found = held_name (image_name asked.form) asked.files must.image must.held in
+          text.no_image found.0 found.1
+      by_text (inr run) = run_accepted run must
   image_refused_exact status.Usage line must h = absurd (no_call_says asked must.config h.no_form must.says)
   image_refused_exact status.ConfigRefused line must h = absurd (not_refused asked must.config h.refusal h.refused must.says)
   image_refused_exact status.RulesRefused line must h =
@@ -277,7 +300,7 @@ module _ {B : Type 0} (seen : Seen B) where
   -- 6, the configuration
   config_missing_exact : (s : Status) (line : List ℕ) → MissesConfig asked → HasEnded s seen line → (s ≡ status.ReadFault) ⊎ IsCutOff s
   config_missing_exact status.Done line must h =
-      let text : TextOf = text_facts asked.form asked h.text h.is_text in absurd (for_missing (config_name asked.form) asked.files _ text.passes.gives.said must)
+      let d : DoneOf = done_of h.text line h.is_text in absurd (for_missing (config_name asked.form) asked.files _ d.1.gives.said must)
   config_missing_exact status.Usage line must h = absurd (no_call asked must.0 h.no_form must.1)
   config_missing_exact status.ConfigRefused line must h = absurd (for_missing (config_name asked.form) asked.files _ h.refused must)
   config_missing_exact status.RulesRefused line must h = absurd (for_missing (config_name asked.form) asked.files _ h.gives.said must)
@@ -293,8 +316,11 @@ module _ {B : Type 0} (seen : Seen B) where
 
   -- 6, the image
   image_missing_exact : (s : Status) (line : List ℕ) → IsImageMissing seen → HasEnded s seen line → (s ≡ status.ReadFault) ⊎ IsCutOff s
-  image_missing_exact status.Done line must h =
-      let text : TextOf = text_facts asked.form asked h.text h.is_text in absurd (text.no_image must.missing.0 must.missing.1)
+  image_missing_exact status.Done line must h = absurd (by_text (done_facts asked.form asked h.text line h.is_text))
+    where
+      by_text : TextOf ⊎ RunOf → ⊥
+      by_text (inl text) = text.no_image must.missing.0 must.missing.1
+      by_text (inr run) = for_missing (image_name asked.form) asked.files _ run.image must.missing
   image_missing_exact status.Usage line must h = absurd (no_call_image asked must.missing.0 h.no_form must.missing.1)
   image_missing_exact status.ConfigRefused line must h = absurd (not_refused asked must.config h.refusal h.refused must.says)
   image_missing_exact status.RulesRefused line must h =
@@ -320,12 +346,9 @@ module _ {B : Type 0} (seen : Seen B) where
       image_accepted given must.image fault g.is_config (subst (λ c. length must.image ≤ c.mem.size) (sym same) must.fits)
       (held_bytes (image_name asked.form) asked.files (λ b. image_fault given.mem b ≡ Some fault) must.image refused must.held)
 
-  -- 9 or 11
+  -- 0, 9 or 11
   pub run_exact : (s : Status) (line : List ℕ) → MustRun seen → HasEnded s seen line → EndsByRun s
-  run_exact status.Done line must h =
-      let text : TextOf = text_facts asked.form asked h.text h.is_text in
-      let found = held_name (image_name asked.form) asked.files must.image must.held in
-      absurd (text.no_image found.0 found.1)
+  run_exact status.Done line must h = inl refl
   run_exact status.Usage line must h = absurd (no_call_says asked must.config h.no_form must.says)
   run_exact status.ConfigRefused line must h = absurd (not_refused asked must.config h.refusal h.refused must.says)
   run_exact status.RulesRefused line must h = absurd (kept_refused asked h.config must.config h.refusal h.gives must.says h.tries must.rules h.refused)
@@ -334,8 +357,8 @@ module _ {B : Type 0} (seen : Seen B) where
     | inl u ↦ config_unread must.says.bytes u must.says.held must.calm
     | inr u ↦ image_unread must.image u must.held must.calm
   ])
-  run_exact status.WriteFault line must h = inr (inr (inl refl))
-  run_exact status.NoMemory line must h = inr (inr (inr refl))
-  run_exact status.CyclesEnded line must h = inl refl
+  run_exact status.WriteFault line must h = inr (inr (inr (inl refl)))
+  run_exact status.NoMemory line must h = inr (inr (inr (inr refl)))
+  run_exact status.CyclesEnded line must h = inr (inl refl)
   run_exact status.ModuleRefused line must h = absurd h
-  run_exact status.Stopped line must h = inr (inl refl)
+  run_exact status.Stopped line must h = inr (inr (inl refl))

@@ -39,7 +39,7 @@ module _ {B : Type 0} (call : Call B) (old mid new : Outside) where
     text_later text h = main ∙ h
 
     ended_later : (end : Status) (line : List ℕ) → HasEnded end worked line → HasEnded end done line
-    ended_later status.Done line h = record { text = h.text; is_text = h.is_text; main = text_later h.text h.main; is_line = h.is_line }
+    ended_later status.Done line h = record { text = h.text; is_text = h.is_text; main = text_later h.text h.main }
     ended_later status.Usage line h = record { no_form = h.no_form; main = main ∙ h.main; is_line = h.is_line; boxes = h.boxes }
     ended_later status.ConfigRefused line h = record { refusal = h.refusal; refused = h.refused; main = main ∙ h.main; is_line = h.is_line; boxes = h.boxes }
     ended_later status.RulesRefused line h = record {

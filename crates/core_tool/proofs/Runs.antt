@@ -1,5 +1,5 @@
 -- The memory, the tree and the run of the command `run`.
-use Rattle.std.proofs.Common.{◌≡◌, ◌<◌, ◌≤◌, ◌⊎◌, inl, inr, ℕ, zero, suc, List, [], ◌∷◌, ◌++◌, length, drop, take, length-take, replicate, Option, Some, All, Bool, true, false, cond, sym, ap, ◌∙◌, subst, arith}
+use Rattle.std.proofs.Common.{◌≡◌, ◌<◌, ◌≤◌, ◌⊎◌, inl, inr, ℕ, List, [], ◌∷◌, ◌++◌, length, drop, take, length-take, replicate, Option, Some, All, Bool, true, false, sym, ap, ◌∙◌, subst, arith}
 use Rattle.std.proofs.lemmas.List.{drop-replicate, length-replicate, get_or-replicate, ext_get_or}
 use Rattle.core_host.specs.Outside.{IsCut, Rose, grown}
 use Rattle.core_host.specs.TextHost.{Texts, fresh, text_on}
@@ -17,7 +17,7 @@ use Rattle.plug_api.specs.declared.spec.PlugSpec.{PlugSpec}
 use Rattle.core_gen.specs.Generated.{IsGenerated}
 use Rattle.image_load.specs.declared.refusal.ImageRefusal.{ImageRefusal}
 use Rattle.image_load.specs.declared.refusal.ImageRefusal.TheVariants as image
-use Rattle.isa_model.specs.Machine.{Set, machine_from}
+use Rattle.isa_model.specs.Machine.{Machine, Set, machine_from}
 use Rattle.verilog_tree.specs.declared.tree.Tree.{Tree}
 use Rattle.verilog_tree.specs.Module.{Reads}
 use Rattle.verilog_mean.specs.CorePorts.{HasCorePorts}
@@ -27,13 +27,14 @@ use Rattle.verilog_mean.specs.Zero.{zero_state}
 use Rattle.isa_follow.specs.Follows.{Follows}
 use Rattle.pipe_refine.specs.Refines.{Claim, RefinesWith}
 use Rattle.core_sim.specs.declared.ended.Ended.{Ended}
-use Rattle.core_sim.specs.declared.ended.Ended.TheVariants as run_end
 use Rattle.core_sim.specs.Joint.{run_of, run_inputs}
-use Rattle.core_sim.specs.Ends.{end_of, end_from, run_text, stops_in}
+use Rattle.core_sim.specs.Ends.{code_in, cycles_of, end_of, lines_before, run_text, text_before}
+use Rattle.core_sim.specs.Output.{exit_of, output_of}
+use Rattle.core_sim.proofs.Agree.{agree}
 use Rattle.core_sim.specs.Over.{IsOverBuses}
 use Rattle.core_tool.specs.declared.options.Options.{Options}
 use Rattle.core_tool.specs.Call.{Boxes}
-use Rattle.core_tool.specs.CoreRun.{IsCoreRun, IsCoreText, IsTreeOfCore, bytes_with, memory_of, set_of}
+use Rattle.core_tool.specs.CoreRun.{IsCoreRun, IsCoreText, IsTreeOfCore, bytes_with, memory_of, run_over, set_of}
 
 -- ---- memory
 
@@ -97,20 +98,16 @@ core_ports boxes config t core = subst (λ (u : Tree). HasCorePorts (plain_tree 
 
 -- ---- the run
 
-chosen_end : (b : Bool) (first later : Ended) (code events cycles : ℕ) → (first ≡ run_end.Exit code events cycles → ⊥) → (later ≡ run_end.Exit code events cycles → ⊥)
-    → cond b first later ≡ run_end.Exit code events cycles → ⊥
-chosen_end true first later code events cycles a b e = a e
-chosen_end false first later code events cycles a b e = b e
+-- what a run that follows the machine shows, and the exit by which it ends
+shown_output : {s : Set} {start : Machine} (run : Trace) (trace : Bool) (most : ℕ) (ended : Ended) → ended ≡ end_of run most
+    → (f : Follows s start run (cycles_of ended)) → run_text trace run most ≡ output_of trace (f.history (cycles_of ended))
+shown_output {s = s} {start = start} run true most ended e f = ap (λ x. lines_before run (cycles_of x)) (sym e) ∙ (agree s start run (cycles_of ended) f).lines (cycles_of ended) (omega arith)
+shown_output {s = s} {start = start} run false most ended e f = ap (λ x. text_before run (cycles_of x)) (sym e) ∙ (agree s start run (cycles_of ended) f).text (cycles_of ended) (omega arith)
 
--- no run ends by an exit
-never_exits : (run : Trace) (k left code events cycles : ℕ) → end_from run k left ≡ run_end.Exit code events cycles → ⊥
-unfolding end_from
-never_exits run k zero code events cycles e = cc
-never_exits run k (suc left) code events cycles e =
-    chosen_end (stops_in run k) _ _ code events cycles (λ h. cc) (never_exits run (suc k) left code events cycles) e
-
-pub never_exits_at : (run : Trace) (most : ℕ) (ended : Ended) (code events cycles : ℕ) → ended ≡ end_of run most → ended ≡ run_end.Exit code events cycles → ⊥
-never_exits_at run most ended code events cycles e h = never_exits run 0 most code events cycles (sym e ∙ h)
+ends_by_exit : {s : Set} {start : Machine} (run : Trace) (most : ℕ) (ended : Ended) → ended ≡ end_of run most
+    → (f : Follows s start run (cycles_of ended)) → code_in ended ≡ exit_of (f.history (cycles_of ended))
+ends_by_exit {s = s} {start = start} run most ended e f =
+    subst (λ x. cycles_of x ≤ cycles_of ended → code_in x ≡ exit_of (f.history (cycles_of x))) (sym e) ((agree s start run (cycles_of ended) f).end most) (omega arith)
 
 -- numbers that are all 0
 all_zero : (n : ℕ) (xs : List ℕ) → length xs ≡ n → All (λ r. r ≡ 0) xs → xs ≡ replicate n 0
@@ -147,8 +144,20 @@ pub core_run : {B : Type 0} (boxes : Boxes B) (config : Config) (image : List �
 core_run boxes config image options t m ended core same is_memory ends over = record {
   tree = t;
   core = core;
-  ends = ends ∙ ap (λ m. end_of (run_of (plain_tree t) m (options.wait ∷ [])) options.cycles) same;
-  lines = ap (λ m. run_text options.trace (run_of (plain_tree t) m (options.wait ∷ [])) options.cycles) same;
-  follows = λ n. subst (λ m. Follows (set_of core.core.plan) (machine_from (set_of core.core.plan) (replicate 32 0) config.shape.reset_pc m) (run_of (plain_tree t) m (options.wait ∷ [])) n) same
-      (core_follows boxes config t core m (options.wait ∷ []) is_memory over n);
+  ends = ends_so;
+  lines = lines_so;
+  follows = follows_so;
+  output = lines_so ∙ shown_output (run_over t config.mem image options) options.trace options.cycles ended ends_so (follows_so (cycles_of ended));
+  exit = ends_by_exit (run_over t config.mem image options) options.cycles ended ends_so (follows_so (cycles_of ended));
 }
+  where
+    ends_so : ended ≡ end_of (run_over t config.mem image options) options.cycles
+    ends_so = ends ∙ ap (λ m. end_of (run_of (plain_tree t) m (options.wait ∷ [])) options.cycles) same
+
+    lines_so : run_text options.trace (run_of (plain_tree t) m (options.wait ∷ [])) options.cycles ≡ run_text options.trace (run_over t config.mem image options) options.cycles
+    lines_so = ap (λ m. run_text options.trace (run_of (plain_tree t) m (options.wait ∷ [])) options.cycles) same
+
+    follows_so : (n : ℕ) → Follows (set_of core.core.plan) (machine_from (set_of core.core.plan) (replicate 32 0) config.shape.reset_pc (memory_of config.mem image))
+        (run_over t config.mem image options) n
+    follows_so n = subst (λ m. Follows (set_of core.core.plan) (machine_from (set_of core.core.plan) (replicate 32 0) config.shape.reset_pc m) (run_of (plain_tree t) m (options.wait ∷ [])) n) same
+        (core_follows boxes config t core m (options.wait ∷ []) is_memory over n)

@@ -15,7 +15,7 @@ use Rattle.core_tool.specs.Words.{Form, Gen, Run, Rules}
 use Rattle.core_tool.specs.Call.{Seen, ReadFailed, WriteFailed}
 use Rattle.core_tool.specs.Boxes.{AreUntouched, HaveTakenBefore, HaveTakenSome, KeepKinds, Refuse, RulesHold, TriesRules}
 use Rattle.core_tool.specs.Files.{ForConfig, ForImage, Gives, HoldsConfig, HoldsImage, MissesConfig, MissesImage, Passes, SaysConfig, config_name, image_fault, image_name}
-use Rattle.core_tool.specs.Texts.{IsRunTextFor, IsTextFor, MayBeText}
+use Rattle.core_tool.specs.Texts.{IsDoneText, IsRunTextFor, MayBeText}
 use Rattle.core_tool.specs.RuleLines.{rule_line}
 use Rattle.core_tool.specs.Lines.{cycles_line, image_line, refusal_line, stopped_line}
 
@@ -25,12 +25,11 @@ HasNoText seen = seen.new.main ≡ seen.old.main
 
 -- ---- 0
 
--- the text that the words ask for is on Main
+-- the text that the words ask for is on Main; of a run it is there where its program ended it, and only then there is a line
 pub record IsDone {B : Type 0} (seen : Seen B) (line : List ℕ) : Type 0 where
   pub text : List ℕ
-  pub is_text : IsTextFor seen.call.form seen.call text
+  pub is_text : IsDoneText seen.call.form seen.call text line
   pub main : Appends seen.old.main text seen.new.main
-  pub is_line : line ≡ []
 
 -- the words ask for a text that is no run's
 abbrev pub AsksForText : Option Form → Type 0
@@ -165,7 +164,7 @@ pub record IsNoMemory {B : Type 0} (seen : Seen B) (line : List ℕ) : Type 0 wh
 
 -- ---- 9 and 11
 
--- as many cycles passed as the run was to have, and no trap stopped the core; the text of the run is on Main
+-- as many cycles passed as the run was to have, no exit came and no trap stopped the core; the text of the run is on Main
 pub record IsCyclesEnded {B : Type 0} (seen : Seen B) (line : List ℕ) : Type 0 where
   pub events : ℕ
   pub cycles : ℕ
@@ -249,9 +248,9 @@ pub record Exactly {B : Type 0} (wanted result : Status) (must : Seen B → Type
 abbrev pub IsWriteFault : {B : Type 0} → Seen B → Type 0
 IsWriteFault seen = IsNoted IsTextCut seen ⊎ IsLineCut seen
 
--- 9 or 11, failed pushes and want of memory aside
+-- 0, 9 or 11, failed pushes and want of memory aside
 abbrev pub EndsByRun : (result : Status) → Type 0
-EndsByRun result = (result ≡ status.CyclesEnded) ⊎ (result ≡ status.Stopped) ⊎ IsCutOff result
+EndsByRun result = (result ≡ status.Done) ⊎ (result ≡ status.CyclesEnded) ⊎ (result ≡ status.Stopped) ⊎ IsCutOff result
 
 -- what a status says has happened, and its line is on Notes, or in its place a line that was to come is cut off
 abbrev pub IsAnswered : {B : Type 0} → Status → Seen B → Type 0

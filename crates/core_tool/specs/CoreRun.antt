@@ -13,7 +13,8 @@ use Rattle.verilog_mean.specs.Erase.{plain_tree}
 use Rattle.isa_follow.specs.Follows.{Follows}
 use Rattle.core_sim.specs.declared.ended.Ended.{Ended}
 use Rattle.core_sim.specs.Joint.{run_of}
-use Rattle.core_sim.specs.Ends.{end_of, run_text}
+use Rattle.core_sim.specs.Ends.{code_in, cycles_of, end_of, run_text}
+use Rattle.core_sim.specs.Output.{exit_of, output_of}
 use Rattle.core_tool.specs.declared.options.Options.{Options}
 use Rattle.core_tool.specs.Call.{Boxes}
 
@@ -45,7 +46,8 @@ abbrev pub run_over : Tree → MemShape → (image : List ℕ) → Options → T
 run_over t mem image options = run_of (plain_tree t) (memory_of mem image) (options.wait ∷ [])
 
 -- This is the end and this the text of the run of the core of a configuration over an image in its memory. The run follows the
--- machine from registers that are 0: its events are those of one machine run.
+-- machine from registers that are 0: its events are those of one machine run. What it shows is the output of that run, its lines
+-- or its host text, and it ends by an exit exactly where that run asks for one, with the code of the first.
 pub record IsCoreRun {B : Type 0} (boxes : Boxes B) (config : Config) (image : List ℕ) (options : Options) (ended : Ended) (text : List ℕ) : Type 0 where
   pub tree : Tree
   pub core : IsTreeOfCore boxes config tree
@@ -53,3 +55,5 @@ pub record IsCoreRun {B : Type 0} (boxes : Boxes B) (config : Config) (image : L
   pub lines : text ≡ run_text options.trace (run_over tree config.mem image options) options.cycles
   pub follows : (n : ℕ) → Follows (set_of core.core.plan) (machine_from (set_of core.core.plan) (replicate 32 0) config.shape.reset_pc (memory_of config.mem image))
       (run_over tree config.mem image options) n
+  pub output : text ≡ output_of options.trace ((follows (cycles_of ended)).history (cycles_of ended))
+  pub exit : code_in ended ≡ exit_of ((follows (cycles_of ended)).history (cycles_of ended))

@@ -4,10 +4,10 @@ use Rattle.core_host.specs.Outside.{Rose, Appends, IsCut}
 use Rattle.core_tool.specs.declared.status.Status.{Status}
 use Rattle.core_tool.specs.declared.status.Status.TheVariants as status
 use Rattle.core_tool.specs.declared.ends.CallEnd.{CallEnd}
-use Rattle.core_tool.specs.declared.ends.CallEnd.TheVariants.{Written, Accepted, BadWords, Refused, RulesRefused, BadFile, BadImage, OutOfMemory, Unwritten, CyclesEnded, Stopped}
+use Rattle.core_tool.specs.declared.ends.CallEnd.TheVariants.{Written, Accepted, BadWords, Refused, RulesRefused, BadFile, BadImage, OutOfMemory, Unwritten, Exited, CyclesEnded, Stopped}
 use Rattle.core_tool.specs.Call.{Seen}
 use Rattle.core_tool.specs.RuleLines.{rule_line}
-use Rattle.core_tool.specs.Lines.{cycles_line, image_line, refusal_line, stopped_line}
+use Rattle.core_tool.specs.Lines.{cycles_line, exit_line, image_line, refusal_line, stopped_line}
 use Rattle.core_tool.specs.Answers.{HasEnded}
 
 -- the status of a call that ends so, where its line is written
@@ -21,6 +21,7 @@ status_of BadFile = status.ReadFault
 status_of (BadImage fault) = status.ImageRefused
 status_of OutOfMemory = status.NoMemory
 status_of Unwritten = status.WriteFault
+status_of (Exited code events cycles) = status.Done
 status_of (CyclesEnded events cycles) = status.CyclesEnded
 status_of (Stopped cause pc events cycles) = status.Stopped
 
@@ -35,6 +36,7 @@ line_of BadFile = codes "read fault\n"
 line_of (BadImage fault) = image_line fault
 line_of OutOfMemory = codes "no memory\n"
 line_of Unwritten = []
+line_of (Exited code events cycles) = exit_line code events cycles
 line_of (CyclesEnded events cycles) = cycles_line events cycles
 line_of (Stopped cause pc events cycles) = stopped_line cause pc events cycles
 

@@ -45,6 +45,10 @@ abbrev pub image_line : ImageFault → List ℕ
 image_line image.TooLong = codes "image long\n"
 image_line (image.Outside addr) = codes "image outside addr=" ++ (address_text addr ++ codes "\n")
 
+-- the line of a run that its program ended
+abbrev pub exit_line : (code events cycles : ℕ) → List ℕ
+exit_line code events cycles = codes "exit code=" ++ (hex8 code ++ (codes " events=" ++ (decimal events ++ (codes " cycles=" ++ (decimal cycles ++ codes "\n")))))
+
 -- the line of a run whose cycles have passed
 abbrev pub cycles_line : (events cycles : ℕ) → List ℕ
 cycles_line events cycles = codes "cycles " ++ (decimal cycles ++ (codes " events=" ++ (decimal events ++ codes "\n")))

@@ -14,7 +14,7 @@ use Rattle.core_sim.specs.Joint.{run_of}
 use Rattle.core_sim.specs.Ends.{end_of, run_text}
 use Rattle.core_sim.specs.Over.{IsOverBuses}
 use Rattle.core_tool.specs.declared.ends.CallEnd.{CallEnd}
-use Rattle.core_tool.specs.declared.ends.CallEnd.TheVariants.{Refused, RulesRefused, BadFile, BadImage, OutOfMemory, Unwritten, CyclesEnded, Stopped}
+use Rattle.core_tool.specs.declared.ends.CallEnd.TheVariants.{Refused, RulesRefused, BadFile, BadImage, OutOfMemory, Unwritten, Exited, CyclesEnded, Stopped}
 use Rattle.core_tool.specs.declared.options.Options.{Options}
 use Rattle.core_config.specs.declared.refusal.ConfigRefusal.{ConfigRefusal}
 use Rattle.core_config.specs.Config.{config_of}
@@ -100,6 +100,7 @@ pub record IsCutRunOf (t : Plain) (m : Memory) (options : Options) (main main' :
 abbrev pub IsSimulated : Plain → Memory → Options → (main main' : Option (List ℕ)) → (before now : ℕ) → CallEnd → Type 0
 IsSimulated t m options main main' before now OutOfMemory = main' ≡ main
 IsSimulated t m options main main' before now Unwritten = IsCutRunOf t m options main main' before now
+IsSimulated t m options main main' before now (Exited code events cycles) = IsRunOf t m options main main' (run_end.Exit code events cycles)
 IsSimulated t m options main main' before now (CyclesEnded events cycles) = IsRunOf t m options main main' (run_end.CyclesEnded events cycles)
 IsSimulated t m options main main' before now (Stopped cause pc events cycles) = IsRunOf t m options main main' (run_end.Stopped cause pc events cycles)
 IsSimulated t m options main main' before now other = ⊥

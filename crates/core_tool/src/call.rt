@@ -49,8 +49,8 @@ use std::alloc::Global;
 const CONFIG_LIMIT: usize = 1_048_576;
 
 /// Does what the words ask for, without the program's name among them, and writes a line on the
-/// port of notes that says how it ended, unless a text was written or cut off. The plug-ins are those
-/// that entries of a configuration can name.
+/// port of notes that says how it ended, unless a text that is no run's was written, or a text was cut
+/// off. The plug-ins are those that entries of a configuration can name.
 pub fn core_main<H: Host>(
     alloc: Global,
     words: &Vec<String>,
@@ -59,7 +59,8 @@ pub fn core_main<H: Host>(
 ) -> Status
     requires few { length plugs.old.items < 2 ^ 32 }
     // What each answer says is in `specs/Answers`, in this order.
-    // 0: the text that the words ask for is on Main: a core, or that a configuration is accepted.
+    // 0: the text that the words ask for is on Main: a core, that a configuration is accepted, or that of a run which
+    // its program ended.
     ensures done { Exactly Status.Done result MustBeDone IsDone
         (seen_of words.now H.Host ⟦<dyn Plugin as Plugin>⟧ plugs.old plugs.new host.old host.new) }
     // 2: the words are no call.
@@ -91,7 +92,7 @@ pub fn core_main<H: Host>(
     // 11: a trap stopped the core.
     ensures stopped { result ≡ Status.Stopped → IsNoted IsStopped
         (seen_of words.now H.Host ⟦<dyn Plugin as Plugin>⟧ plugs.old plugs.new host.old host.new) }
-    // 9 or 11: a run comes to its end.
+    // 0, 9 or 11: a run comes to its end.
     ensures runs { MustRun (seen_of words.now H.Host ⟦<dyn Plugin as Plugin>⟧ plugs.old plugs.new host.old host.new)
         → EndsByRun result }
     // In each call:

@@ -2,7 +2,7 @@ ghost use Rattle.std.specs.Prelude.{◌≡◌, ◌≤◌, ℕ, OnOk, OnErr, code
 ghost use Rattle.core_host.specs.declared.host.Port.{Port};
 ghost use Rattle.core_host.specs.declared.host.Port.TheVariants.{Notes};
 ghost use Rattle.core_host.specs.Outside.{Rose, Appends, IsCut};
-ghost use Rattle.core_tool.specs.Lines.{image_line, key_line, refusal_line, stopped_line, want_ending};
+ghost use Rattle.core_tool.specs.Lines.{exit_line, image_line, key_line, refusal_line, stopped_line, want_ending};
 ghost use Rattle.core_tool.specs.Pieces.{joined};
 ghost use Rattle.core_tool.specs.Ends.{line_of, status_of};
 ghost use Rattle.core_tool.specs.RuleLines.{rule_line};
@@ -37,6 +37,12 @@ pub enum CallEnd {
     OutOfMemory,
     /// A push of the text failed.
     Unwritten,
+    /// The program asked for its end with this code.
+    Exited {
+        code: u32,
+        events: u64,
+        cycles: u64,
+    },
     /// As many cycles passed as the run was to have.
     CyclesEnded {
         events: u64,
@@ -66,7 +72,7 @@ impl CallEnd {
         ensures { result ≡ status_of self.now }
     {
         match self {
-            CallEnd::Written | CallEnd::Accepted => Status::Done,
+            CallEnd::Written | CallEnd::Accepted | CallEnd::Exited { .. } => Status::Done,
             CallEnd::BadWords => Status::Usage,
             CallEnd::Refused(_) => Status::ConfigRefused,
             CallEnd::RulesRefused(_) => Status::RulesRefused,
@@ -80,7 +86,8 @@ impl CallEnd {
     }
 }
 
-/// Pushes the line of an end on the port of notes: none where it wrote or was to write a text. It takes no memory.
+/// Pushes the line of an end on the port of notes: none where it wrote a text that is no run's, or was to write a text.
+/// It takes no memory.
 pub fn push_line<H: Host>(host: &mut H, end: &CallEnd) -> Result<(), HostFailed>
     ensures whole { OnOk result (Appends (H.pushed host.old Notes) (line_of end.now) (H.pushed host.new Notes)) }
     ensures part { OnErr result (IsCut (H.pushed host.old Notes) (line_of end.now) (H.pushed host.new Notes)) }
@@ -101,6 +108,11 @@ pub fn push_line<H: Host>(host: &mut H, end: &CallEnd) -> Result<(), HostFailed>
         CallEnd::BadFile => push_pieces(host, &[Piece::Text("read fault\n")]),
         CallEnd::BadImage(fault) => push_pieces(host, &image_pieces(*fault)),
         CallEnd::OutOfMemory => push_pieces(host, &[Piece::Text("no memory\n")]),
+        CallEnd::Exited {
+            code,
+            events,
+            cycles,
+        } => push_pieces(host, &exit_pieces(*code, *events, *cycles)),
         CallEnd::CyclesEnded { events, cycles } => push_pieces(
             host,
             &[
@@ -209,6 +221,21 @@ fn image_pieces(fault: ImageFault) -> [Piece<'static>; 4]
             Piece::Text("\n"),
         ],
     }
+}
+
+/// The line of a run that its program ended.
+fn exit_pieces(code: u32, events: u64, cycles: u64) -> [Piece<'static>; 7]
+    ensures { joined result ≡ exit_line code events cycles }
+{
+    [
+        Piece::Text("exit code="),
+        Piece::Hex(code),
+        Piece::Text(" events="),
+        Piece::Decimal(events),
+        Piece::Text(" cycles="),
+        Piece::Decimal(cycles),
+        Piece::Text("\n"),
+    ]
 }
 
 /// The line of a run that a trap stopped.

@@ -7,7 +7,7 @@ ghost use Rattle.core_host.specs.Outside.{Appends, IsCut};
 ghost use Rattle.core_tool.specs.Call.{ForEachCall, WriteFailed};
 ghost use Rattle.core_tool.specs.Boxes.{AreUntouched, TriesRules};
 ghost use Rattle.core_tool.specs.Texts.{IsRunTextFor, MayBeText};
-ghost use Rattle.core_tool.specs.Answers.{AreAnswers, HasNoText, IsAnswered, IsNoted, IsTextCut, IsWriteFault, MustBeDone, MustRun};
+ghost use Rattle.core_tool.specs.Answers.{AreAnswers, AsksForText, HasNoText, IsAnswered, IsNoted, IsTextCut, IsWriteFault, MustBeDone, MustRun};
 
 use crate::Status;
 use plug_api::Plugin;
@@ -23,7 +23,7 @@ pub fn calls_are_complete(_plugs: &Vec<Box<dyn Plugin>>)
     ensures texts { ForEachCall ⟦<dyn Plugin as Plugin>⟧ (λ seen. (result : Status) → AreAnswers result seen → MustBeDone seen → ¬ (WriteFailed seen)
         → (result ≡ Status.Done) ⊎ (result ≡ Status.NoMemory)) }
     ensures runs { ForEachCall ⟦<dyn Plugin as Plugin>⟧ (λ seen. (result : Status) → AreAnswers result seen → MustRun seen → ¬ (WriteFailed seen)
-        → (result ≡ Status.CyclesEnded) ⊎ (result ≡ Status.Stopped) ⊎ (result ≡ Status.NoMemory)) }
+        → (result ≡ Status.Done) ⊎ (result ≡ Status.CyclesEnded) ⊎ (result ≡ Status.Stopped) ⊎ (result ≡ Status.NoMemory)) }
 {}
 
 /// A command that tries no rule leaves all boxes as they were.
@@ -38,8 +38,9 @@ pub fn faults_leave_prefixes(_plugs: &Vec<Box<dyn Plugin>>)
         ⊎ ((ended : Ended) × (text : List ℕ) × IsRunTextFor seen.call.form seen.call ended text × Appends seen.old.main text seen.new.main)) }
 {}
 
-/// Where a text is written, or is cut off, nothing is pushed on Notes.
+/// Where a text that is no run's is written, or a text is cut off, nothing is pushed on Notes.
 pub fn texts_leave_notes(_plugs: &Vec<Box<dyn Plugin>>)
-    ensures done { ForEachCall ⟦<dyn Plugin as Plugin>⟧ (λ seen. (result : Status) → AreAnswers result seen → result ≡ Status.Done → seen.new.notes ≡ seen.old.notes) }
+    ensures done { ForEachCall ⟦<dyn Plugin as Plugin>⟧ (λ seen. (result : Status) → AreAnswers result seen → AsksForText seen.call.form → result ≡ Status.Done
+        → seen.new.notes ≡ seen.old.notes) }
     ensures cut { ForEachCall ⟦<dyn Plugin as Plugin>⟧ (λ seen. IsNoted IsTextCut seen → seen.new.notes ≡ seen.old.notes) }
 {}

@@ -156,7 +156,8 @@ fn own_text(
     }
 }
 
-/// Runs a core over this memory with these options, and pushes the run's lines on the main port where they are wanted.
+/// Runs a core over this memory with these options, and pushes the run's text on the main port: the lines of its events
+/// where they are wanted, and else its host text.
 pub fn simulate<H: Host>(
     alloc: Global,
     checked: &Checked,
@@ -200,7 +201,17 @@ pub fn simulate<H: Host>(
             events,
             cycles,
         },
-        Ok(Ended::Exit { .. }) => unreachable!(),
+        Ok(
+            Ended::Exit {
+                code,
+                events,
+                cycles,
+            },
+        ) => CallEnd::Exited {
+            code,
+            events,
+            cycles,
+        },
         Err(SimRefusal::WriteFault) => CallEnd::Unwritten,
         Err(SimRefusal::NoMemory) => CallEnd::OutOfMemory,
         Err(SimRefusal::Breach { .. }) => unreachable!(),
