@@ -247,6 +247,7 @@ pub fn decoder(pool: &mut Pool, word: Net, rows: &[Claim], owners: &[u32]) -> (D
     ensures unit { (env : Env) → value_in env pool.new result.0.unit ≡ unit_of rows.now owners.now (value_in env pool.old word) }
     ensures uses_a { (env : Env) → value_in env pool.new result.0.uses_a ≡ flag_of reads_a rows.now (value_in env pool.old word) }
     ensures uses_b { (env : Env) → value_in env pool.new result.0.uses_b ≡ flag_of reads_b rows.now (value_in env pool.old word) }
+    ensures has_value { (env : Env) → value_in env pool.new result.0.has_value ≡ flag_of gives_value rows.now (value_in env pool.old word) }
     ensures writes { (env : Env) → value_in env pool.new result.1 ≡ writes_of (value_in env pool.old word) (flag_of gives_value rows.now (value_in env pool.old word)) }
     ensures nets { AreDecoded pool.new result.0 }
     ensures net { Is pool.new result.1 1 1 }

@@ -60,6 +60,17 @@ returns-clause-uses_b c env =
     ∙ all.ensures.gives.uses_b env
     ∙ (λ i. or_from ((c.calls-calls.ensures.uses_b env ∙ (λ j. of_calls (start j) 0 0)) i) (λ k. masked (still i) (claim_at rows k) (one_if (uses_b (claim_at rows k).row))) (length rows))
 
+pub returns-clause-has_value : goal.returns-clause-has_value
+unfolding flag_of
+returns-clause-has_value c env =
+    let all = c.with_claims-all in
+    let rows = c.args.rows.now in
+    let start = kept env _ _ _ c.args.word c.make_zeros-zeros.ensures.step c.requires.word.0 in
+    let still = kept env _ _ _ c.args.word (c.make_zeros-zeros.ensures.step ▸ c.calls-calls.ensures.step) c.requires.word.0 in
+    kept env _ _ _ all.result.has_value c.writes-writes.ensures.step all.ensures.nets.has_value.0
+    ∙ all.ensures.gives.has_value env
+    ∙ (λ i. or_from ((c.calls-calls.ensures.has_value env ∙ (λ j. of_calls (start j) 0 0)) i) (λ k. masked (still i) (claim_at rows k) (one_if (has_value (claim_at rows k).row))) (length rows))
+
 pub returns-clause-writes : goal.returns-clause-writes
 unfolding flag_of
 returns-clause-writes c env =
