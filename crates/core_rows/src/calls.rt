@@ -176,7 +176,7 @@ const CALLS: &[Row] = &[
     (
         "rules c",
         NONE,
-        "[[plugin]]\nkind = 'dbus'",
+        "[[plugin]]\nkind = 'cache'",
         Status::RulesRefused,
         "",
         "rules 1 entry=0\n",
@@ -184,7 +184,7 @@ const CALLS: &[Row] = &[
     (
         "run c d",
         NONE,
-        "[[plugin]]\nkind = 'dbus'",
+        "[[plugin]]\nkind = 'cache'",
         Status::RulesRefused,
         "",
         "rules 1 entry=0\n",

@@ -4,9 +4,13 @@
 #[cfg(test)]
 mod calls;
 #[cfg(test)]
+mod exits;
+#[cfg(test)]
 mod hosts;
 #[cfg(test)]
 mod jumps;
+#[cfg(test)]
+mod loads;
 #[cfg(test)]
 mod runs;
 #[cfg(test)]

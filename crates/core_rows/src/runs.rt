@@ -1,5 +1,5 @@
 use crate::hosts::{config, end_of, host, words};
-use crate::{jumps, units};
+use crate::{jumps, loads, units};
 use core_host::Port;
 use core_tool::Status;
 use std::alloc::{AllocError, Global};
@@ -15,7 +15,7 @@ pub type Run = (
 );
 
 /// The bytes of words, the lowest first.
-fn bytes_of(alloc: Global, image: &[u32]) -> Result<Vec<u8>, AllocError> {
+pub fn bytes_of(alloc: Global, image: &[u32]) -> Result<Vec<u8>, AllocError> {
     let mut bytes = Vec::new(alloc);
     for word in image {
         for byte in word.to_le_bytes() {
@@ -91,6 +91,7 @@ fn have_events(alloc: Global, runs: &[Run], stages: &str, wait: &str) -> Result<
 fn runs_have_their_events_and_cycles(rt: HostRuntime) -> Result<(), Fail> {
     assert!(rt; all_end(rt.alloc(), jumps::RUNS)?);
     assert!(rt; all_end(rt.alloc(), units::RUNS)?);
+    assert!(rt; all_end(rt.alloc(), loads::RUNS)?);
     Ok(())
 }
 
@@ -104,6 +105,10 @@ fn runs_have_their_events_with_fewer_stages(rt: HostRuntime) -> Result<(), Fail>
         );
         assert!(rt;
             have_events(rt.alloc(), units::RUNS, stages, wait)?,
+            "{stages}"
+        );
+        assert!(rt;
+            have_events(rt.alloc(), loads::RUNS, stages, wait)?,
             "{stages}"
         );
     }
@@ -129,5 +134,6 @@ fn all_are_judged(alloc: Global, rules: &[(&str, &str)]) -> Result<bool, AllocEr
 fn rules_are_tried(rt: HostRuntime) -> Result<(), Fail> {
     assert!(rt; all_are_judged(rt.alloc(), jumps::RULES)?);
     assert!(rt; all_are_judged(rt.alloc(), units::RULES)?);
+    assert!(rt; all_are_judged(rt.alloc(), loads::RULES)?);
     Ok(())
 }
