@@ -1,0 +1,9 @@
+pub mod Truths
+pub mod Wires
+pub mod Basics
+pub mod InTime
+pub mod Invariant
+pub mod Kept
+pub mod Streams
+pub mod Tied
+pub mod Runs

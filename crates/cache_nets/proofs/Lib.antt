@@ -1,0 +1,4 @@
+pub mod Truths
+pub mod Slices
+pub mod Tied
+pub mod Stays
