@@ -1,4 +1,4 @@
-//! The program: writes one of the sample modules on standard output.
+//! The program: writes one of the sample modules on standard output, or writes the small one and tries both.
 #![tactic(auto)]
 
 mod draft;
@@ -7,6 +7,7 @@ mod few;
 mod many;
 mod nodes;
 mod sample;
+mod tries;
 
 ghost use Rattle.std.specs.Prelude.{◌≤◌, IfOk};
 ghost use Rattle.hw_module.specs.Checked.{IsChecked};
@@ -15,6 +16,7 @@ ghost use Rattle.module_netlist.specs.Written.{thing_count};
 use crate::few::small;
 use crate::many::large;
 use crate::sample::{Sample, SampleRefusal};
+use crate::tries::try_all;
 use core_host::{Host, RealHost};
 use std::alloc::Global;
 use std::env::{self, Env};
@@ -29,21 +31,41 @@ enum Choice {
     Large,
 }
 
+/// What to do.
+#[derive(Clone, Copy, Debug, PartialEq, Eq)]
+enum Task {
+    Write(Choice),
+    Try,
+}
+
 fn main(rt: HostRuntime) -> ExitCode {
     let alloc = rt.alloc();
-    let status = match asked(&rt) {
-        Ok(Some(choice)) => {
-            let mut host = RealHost::new(alloc, rt, rt.stdout(), rt.stderr());
-            write(alloc, choice, &mut host)
-        }
-        Ok(None) => 2,
-        Err(_error) => 3,
+    let task = match asked(&rt) {
+        Ok(Some(task)) => task,
+        Ok(None) => return ExitCode::from(2),
+        Err(_error) => return ExitCode::from(3),
+    };
+    let mut host = RealHost::new(alloc, rt, rt.stdout(), rt.stderr());
+    let status = match task {
+        Task::Write(choice) => write(alloc, choice, &mut host),
+        Task::Try => match write(alloc, Choice::Small, &mut host) {
+            0 => tried(&rt, alloc),
+            status => status,
+        },
     };
     ExitCode::from(status)
 }
 
-/// What the words of the call choose: the one word `small` or `large`.
-fn asked<R: Env + Alloc>(rt: &R) -> io::Result<Option<Choice>> {
+/// Tries both modules, and answers the status of the program.
+fn tried(rt: &impl Print, alloc: Global) -> u8 {
+    match try_all(rt, alloc) {
+        Ok(()) => 0,
+        Err(_error) => 3,
+    }
+}
+
+/// What the words of the call ask for: the one word `small`, `large` or `try`.
+fn asked<R: Env + Alloc>(rt: &R) -> io::Result<Option<Task>> {
     let mut words = env::args(rt)?.skip(1);
     let found = match words.next() {
         Some(word) => named(word.as_str()),
@@ -55,11 +77,12 @@ fn asked<R: Env + Alloc>(rt: &R) -> io::Result<Option<Choice>> {
     }
 }
 
-/// The choice of a name.
-fn named(word: &str) -> Option<Choice> {
+/// The task of a name.
+fn named(word: &str) -> Option<Task> {
     match word {
-        "small" => Some(Choice::Small),
-        "large" => Some(Choice::Large),
+        "small" => Some(Task::Write(Choice::Small)),
+        "large" => Some(Task::Write(Choice::Large)),
+        "try" => Some(Task::Try),
         _ => None,
     }
 }
@@ -86,6 +109,3 @@ fn write<H: Host>(alloc: Global, choice: Choice, host: &mut H) -> u8 {
         Err(_refusal) => 3,
     }
 }
-
-#[cfg(test)]
-mod tests;

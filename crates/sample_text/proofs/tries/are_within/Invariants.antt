@@ -1,6 +1,6 @@
 use Rattle.std.proofs.Common.{ℕ, ◌<◌, get_or}
 use Rattle.sample_text.proofs.Limits.{limits}
-use Rattle.sample_text.proofs.tests.are_within.Given as goal
+use Rattle.sample_text.proofs.tries.are_within.Given as goal
 
 abbrev pub invariant-loop-k : goal.invariant-loop-k
 invariant-loop-k l = (j : ℕ) → j < l.k → get_or l.ins j 0 < get_or limits j 0

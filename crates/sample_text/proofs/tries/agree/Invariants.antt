@@ -1,5 +1,5 @@
 use Rattle.sample_text.specs.Poked.{IsOf}
-use Rattle.sample_text.proofs.tests.agree.Given as goal
+use Rattle.sample_text.proofs.tries.agree.Given as goal
 
 abbrev pub invariant-loop-k : goal.invariant-loop-k
 invariant-loop-k l = IsOf l.cycle l.sample.circuit l.sample.pool

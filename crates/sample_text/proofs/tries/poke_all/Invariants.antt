@@ -1,5 +1,5 @@
 use Rattle.sample_text.specs.Poked.{HasCells, IsOf}
-use Rattle.sample_text.proofs.tests.poke_all.Given as goal
+use Rattle.sample_text.proofs.tries.poke_all.Given as goal
 
 abbrev pub invariant-loop-reg : goal.invariant-loop-reg
 invariant-loop-reg l = IsOf l.cycle l.sample.circuit l.sample.pool × HasCells l.cycle l.sample.circuit

@@ -1,5 +1,6 @@
-ghost use Rattle.std.specs.Prelude.{◌≡◌, IsTrue, length};
+ghost use Rattle.std.specs.Prelude.{◌≡◌, ◌≤◌, IsTrue, length};
 ghost use Rattle.hw_module.specs.Checked.{IsChecked};
+ghost use Rattle.module_netlist.specs.Written.{thing_count};
 ghost use Rattle.hw_cycle.specs.Inputs.{AreWithin};
 ghost use Rattle.sample_text.specs.Poked.{HasCells, IsOf};
 
@@ -10,7 +11,6 @@ use core_host::{MemHost, Port, TextHost};
 use core_words::mask_of;
 use hw_cycle::Cycle;
 use std::alloc::{AllocError, Global};
-use std::test::Fail;
 use verilog_load::load_text;
 use verilog_sim::TreeSim;
 use verilog_write::{WriteRefusal, module_text, write_module};
@@ -193,54 +193,73 @@ fn agree(alloc: Global, sample: &Sample, sim: &mut TreeSim, start: u64) -> Resul
     Ok(true)
 }
 
-#[test]
-fn the_text_steps_as_the_module(rt: HostRuntime) -> Result<(), Fail> {
-    let alloc = rt.alloc();
+/// Whether the small module and the simulator of its text have equal outputs, from each of three starts.
+fn steps_as_its_text(alloc: Global) -> anyhow::Result<bool> {
     let sample = small(alloc)?;
     let mut host = TextHost::with_room(alloc, 65_536)?;
     write_module(alloc, &sample.circuit, &sample.pool, &mut host)?;
     let checked = load_text(alloc, host.pushed(Port::Main).as_slice())?;
+    let mut all = true;
     for start in [0, 1, 2] {
         let mut sim = TreeSim::new(alloc, &checked)?;
-        assert!(rt; agree(alloc, &sample, &mut sim, start)?, "from {start}");
+        all &= agree(alloc, &sample, &mut sim, start)?;
     }
-    Ok(())
+    Ok(all)
 }
 
-#[test]
-fn a_port_that_fails_holds_a_part(rt: HostRuntime) -> Result<(), Fail> {
-    let alloc = rt.alloc();
+/// Whether a port that takes 100 bytes a call, and fails at a call, holds then a proper part of the text of the module.
+fn is_cut(alloc: Global, sample: &Sample, text: &[u8], fails: u32) -> Result<bool, AllocError>
+    requires checked { IsChecked sample.now.circuit sample.now.pool }
+    requires few { thing_count sample.now.circuit sample.now.pool ≤ 65535 }
+{
+    let calls = vec![in alloc; fails]?;
+    let mut host = MemHost::new(alloc, Vec::new(alloc), calls, 100, 65_536)?;
+    let written = write_module(alloc, &sample.circuit, &sample.pool, &mut host);
+    let taken = host.pushed(Port::Main).as_slice();
+    Ok(
+        written == Err(WriteRefusal::WriteFault)
+            && taken.len() / 100 + 1 == fails as usize
+            && taken.len() < text.len()
+            && text.starts_with(taken),
+    )
+}
+
+/// At how many calls a port that fails holds a proper part of the text of the small module, up to the first at which it does not.
+fn cuts(alloc: Global) -> anyhow::Result<u32> {
     let sample = small(alloc)?;
     let text = module_text(alloc, &sample.circuit, &sample.pool)?;
-    let calls = (text.len() + 99) / 100;
-    for fails in 1..=calls {
-        let mut host = MemHost::new(
-            alloc,
-            Vec::new(alloc),
-            vec![in alloc; fails as u32]?,
-            100,
-            65_536,
-        )?;
-        let written = write_module(alloc, &sample.circuit, &sample.pool, &mut host);
-        assert_eq!(rt; written, Err(WriteRefusal::WriteFault));
-        let taken = host.pushed(Port::Main).as_slice();
-        assert_eq!(rt; taken.len() + 100, 100 * fails);
-        assert!(rt; text.starts_with(taken));
+    for calls in 0..1_000 {
+        if calls as usize * 100 >= text.len()
+            || !is_cut(alloc, &sample, text.as_slice(), calls + 1)?
+        {
+            return Ok(calls);
+        }
     }
-    Ok(())
+    Ok(1_000)
 }
 
-#[test]
-fn the_large_module_is_as_large_as_may_be(rt: HostRuntime) -> Result<(), Fail> {
-    let alloc = rt.alloc();
+/// How many registers and nodes the large module has, and how many registers the simulator of its text.
+fn sizes(alloc: Global) -> anyhow::Result<(usize, u32, usize)> {
     let sample = large(alloc)?;
-    assert_eq!(rt;
-        (sample.circuit.regs().len(), sample.pool.live()),
-        (300, 64_918)
-    );
     let text = module_text(alloc, &sample.circuit, &sample.pool)?;
     let checked = load_text(alloc, text.as_slice())?;
     let sim = TreeSim::new(alloc, &checked)?;
-    assert_eq!(rt; sim.flat.regs.len(), 300);
+    Ok((
+        sample.circuit.regs().len(),
+        sample.pool.live(),
+        sim.flat.regs.len(),
+    ))
+}
+
+/// Tries both modules, and prints a line for each thing that is tried.
+pub(crate) fn try_all(rt: &impl Print, alloc: Global) -> anyhow::Result<()> {
+    let equal = steps_as_its_text(alloc)?;
+    println!(rt; "small: 300 cycles from each of 3 starts are those of its text: {equal}")?;
+    let calls = cuts(alloc)?;
+    println!(rt; "small: a port that fails holds a proper part at each of {calls} calls")?;
+    let (regs, nodes, simulated) = sizes(alloc)?;
+    println!(rt;
+        "large: {regs} registers and {nodes} nodes, and {simulated} registers in its text"
+    )?;
     Ok(())
 }
