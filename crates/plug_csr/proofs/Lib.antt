@@ -1,0 +1,5 @@
+pub mod Parts
+pub mod Inputs
+pub mod Moves
+pub mod Offers
+pub mod Done

@@ -1,0 +1,4 @@
+pub mod Cycle
+pub mod Registers
+pub mod Built
+pub mod Builds
