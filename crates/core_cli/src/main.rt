@@ -6,6 +6,7 @@ use core_tool::{Status, core_main};
 use plug_alu::Alu;
 use plug_api::Plugin;
 use plug_branch::Branch;
+use plug_csr::Csr;
 use plug_dbus::Dbus;
 use plug_decoder::Decoder;
 use plug_fetch::Fetch;
@@ -45,7 +46,12 @@ fn answer(alloc: Global, rt: HostRuntime, words: &Vec<String>) -> Result<Status,
     plugs.push(Box::new(alloc, ShiftLight::new(alloc)?)?)?;
     plugs.push(Box::new(alloc, ShiftBarrel::new(alloc)?)?)?;
     plugs.push(Box::new(alloc, Dbus::new(alloc)?)?)?;
+    plugs.push(Box::new(alloc, Csr::new(alloc)?)?)?;
     plugs.push(Box::new(alloc, Muldiv::new(alloc)?)?)?;
+    // (it never is: this shows the bound on their number that the call asks for)
+    if plugs.len() > 12 {
+        return Err(AllocError);
+    }
     let mut host = RealHost::new(alloc, rt, rt.stdout(), rt.stderr());
     Ok(core_main(alloc, words, &mut plugs, &mut host))
 }

@@ -1,3 +1,4 @@
+use crate::csrs;
 use crate::hosts::{ROOM, config, end_of, host_with_room, words};
 use crate::loads::INTEGER;
 use crate::runs::{bytes_of, ends};
@@ -6,8 +7,8 @@ use core_tool::Status;
 use std::alloc::{AllocError, Global};
 use std::test::Fail;
 
-/// A run: other lines of the configuration of the integer core, the options, the image, the status, and what is pushed on the two ports.
-type End = (
+/// A run: other lines of the core's configuration, the options, the image, the status, and what is pushed on the two ports.
+pub type End = (
     &'static str,
     &'static str,
     &'static [u32],
@@ -198,18 +199,23 @@ const ENDS: &[End] = &[
     ),
 ];
 
+/// Whether each run of this core ends as its row says.
+fn have_ends(alloc: Global, core: &str, runs: &[End]) -> Result<bool, AllocError> {
+    for (lines, options, image, status, main, line) in runs {
+        let text = format!(in alloc; "run c i{options}")?;
+        let config = config(alloc, core, *lines)?;
+        let wanted = (*status, *main, *line);
+        if !ends(alloc, text.as_str(), config.as_str(), *image, wanted)? {
+            return Ok(false);
+        }
+    }
+    Ok(true)
+}
+
 #[test]
 fn runs_end_by_their_exit(rt: HostRuntime) -> Result<(), Fail> {
-    let alloc = rt.alloc();
-    for (lines, options, image, status, main, line) in ENDS {
-        let text = format!(in alloc; "run c i{options}")?;
-        let config = config(alloc, INTEGER, *lines)?;
-        let wanted = (*status, *main, *line);
-        assert!(rt;
-            ends(alloc, text.as_str(), config.as_str(), *image, wanted)?,
-            "{line}"
-        );
-    }
+    assert!(rt; have_ends(rt.alloc(), INTEGER, ENDS)?);
+    assert!(rt; have_ends(rt.alloc(), csrs::REGISTERS, csrs::RUNS)?);
     Ok(())
 }
 

@@ -3,6 +3,7 @@ use core_tool::{Status, core_main};
 use plug_alu::Alu;
 use plug_api::Plugin;
 use plug_branch::Branch;
+use plug_csr::Csr;
 use plug_dbus::Dbus;
 use plug_decoder::Decoder;
 use plug_fetch::Fetch;
@@ -76,6 +77,7 @@ fn add_others(alloc: Global, plugs: &mut Vec<Box<dyn Plugin>>) -> Result<(), All
     plugs.push(Box::new(alloc, ShiftBarrel::new(alloc)?)?)?;
     plugs.push(Box::new(alloc, Muldiv::new(alloc)?)?)?;
     plugs.push(Box::new(alloc, Dbus::new(alloc)?)?)?;
+    plugs.push(Box::new(alloc, Csr::new(alloc)?)?)?;
     plugs.push(Box::new(alloc, Srl::new(alloc)?)?)?;
     Ok(())
 }
@@ -89,7 +91,7 @@ pub fn end_of(
     let mut plugs: Vec<Box<dyn Plugin>> = Vec::new(alloc);
     add_small(alloc, &mut plugs)?;
     add_others(alloc, &mut plugs)?;
-    if plugs.len() > 12 {
+    if plugs.len() > 13 {
         return Err(AllocError);
     }
     Ok(core_main(alloc, words, &mut plugs, host))

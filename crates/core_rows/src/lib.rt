@@ -4,6 +4,8 @@
 #[cfg(test)]
 mod calls;
 #[cfg(test)]
+mod csrs;
+#[cfg(test)]
 mod exits;
 #[cfg(test)]
 mod hosts;

@@ -1,5 +1,5 @@
 use crate::hosts::{config, end_of, host, words};
-use crate::{jumps, loads, units};
+use crate::{csrs, jumps, loads, units};
 use core_host::Port;
 use core_tool::Status;
 use std::alloc::{AllocError, Global};
@@ -135,5 +135,6 @@ fn rules_are_tried(rt: HostRuntime) -> Result<(), Fail> {
     assert!(rt; all_are_judged(rt.alloc(), jumps::RULES)?);
     assert!(rt; all_are_judged(rt.alloc(), units::RULES)?);
     assert!(rt; all_are_judged(rt.alloc(), loads::RULES)?);
+    assert!(rt; all_are_judged(rt.alloc(), csrs::RULES)?);
     Ok(())
 }
