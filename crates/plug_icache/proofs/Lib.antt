@@ -1,0 +1,10 @@
+mod Powers
+mod Drives
+mod Begun
+mod Asked
+mod Seen
+mod Fours
+mod Arrays
+mod Found
+mod Left
+mod Parts

@@ -1,0 +1,6 @@
+pub mod Sizes
+pub mod Reads
+pub mod Registers
+pub mod Builds
+pub mod Begun
+pub mod Late
