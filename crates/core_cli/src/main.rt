@@ -9,8 +9,10 @@ use plug_branch::Branch;
 use plug_csr::Csr;
 use plug_dbus::Dbus;
 use plug_decoder::Decoder;
+use plug_fencei::Fencei;
 use plug_fetch::Fetch;
 use plug_hazard::Hazard;
+use plug_icache::Icache;
 use plug_muldiv::Muldiv;
 use plug_predict::Predict;
 use plug_regfile::RegFile;
@@ -48,8 +50,10 @@ fn answer(alloc: Global, rt: HostRuntime, words: &Vec<String>) -> Result<Status,
     plugs.push(Box::new(alloc, Dbus::new(alloc)?)?)?;
     plugs.push(Box::new(alloc, Csr::new(alloc)?)?)?;
     plugs.push(Box::new(alloc, Muldiv::new(alloc)?)?)?;
+    plugs.push(Box::new(alloc, Icache::new(alloc)?)?)?;
+    plugs.push(Box::new(alloc, Fencei::new(alloc)?)?)?;
     // (it never is: this shows the bound on their number that the call asks for)
-    if plugs.len() > 12 {
+    if plugs.len() > 14 {
         return Err(AllocError);
     }
     let mut host = RealHost::new(alloc, rt, rt.stdout(), rt.stderr());

@@ -1,7 +1,7 @@
-use crate::csrs;
 use crate::hosts::{ROOM, config, end_of, host_with_room, words};
 use crate::loads::INTEGER;
 use crate::runs::{bytes_of, ends};
+use crate::{caches, csrs};
 use core_host::Port;
 use core_tool::Status;
 use std::alloc::{AllocError, Global};
@@ -216,6 +216,7 @@ fn have_ends(alloc: Global, core: &str, runs: &[End]) -> Result<bool, AllocError
 fn runs_end_by_their_exit(rt: HostRuntime) -> Result<(), Fail> {
     assert!(rt; have_ends(rt.alloc(), INTEGER, ENDS)?);
     assert!(rt; have_ends(rt.alloc(), csrs::REGISTERS, csrs::RUNS)?);
+    assert!(rt; have_ends(rt.alloc(), caches::WHOLE, caches::ENDS)?);
     Ok(())
 }
 

@@ -6,8 +6,10 @@ use plug_branch::Branch;
 use plug_csr::Csr;
 use plug_dbus::Dbus;
 use plug_decoder::Decoder;
+use plug_fencei::Fencei;
 use plug_fetch::Fetch;
 use plug_hazard::Hazard;
+use plug_icache::Icache;
 use plug_muldiv::Muldiv;
 use plug_predict::Predict;
 use plug_regfile::RegFile;
@@ -78,6 +80,8 @@ fn add_others(alloc: Global, plugs: &mut Vec<Box<dyn Plugin>>) -> Result<(), All
     plugs.push(Box::new(alloc, Muldiv::new(alloc)?)?)?;
     plugs.push(Box::new(alloc, Dbus::new(alloc)?)?)?;
     plugs.push(Box::new(alloc, Csr::new(alloc)?)?)?;
+    plugs.push(Box::new(alloc, Icache::new(alloc)?)?)?;
+    plugs.push(Box::new(alloc, Fencei::new(alloc)?)?)?;
     plugs.push(Box::new(alloc, Srl::new(alloc)?)?)?;
     Ok(())
 }
@@ -91,7 +95,7 @@ pub fn end_of(
     let mut plugs: Vec<Box<dyn Plugin>> = Vec::new(alloc);
     add_small(alloc, &mut plugs)?;
     add_others(alloc, &mut plugs)?;
-    if plugs.len() > 13 {
+    if plugs.len() > 15 {
         return Err(AllocError);
     }
     Ok(core_main(alloc, words, &mut plugs, host))

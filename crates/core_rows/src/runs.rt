@@ -1,5 +1,5 @@
 use crate::hosts::{config, end_of, host, words};
-use crate::{csrs, jumps, loads, units};
+use crate::{caches, csrs, jumps, loads, units};
 use core_host::Port;
 use core_tool::Status;
 use std::alloc::{AllocError, Global};
@@ -92,6 +92,7 @@ fn runs_have_their_events_and_cycles(rt: HostRuntime) -> Result<(), Fail> {
     assert!(rt; all_end(rt.alloc(), jumps::RUNS)?);
     assert!(rt; all_end(rt.alloc(), units::RUNS)?);
     assert!(rt; all_end(rt.alloc(), loads::RUNS)?);
+    assert!(rt; all_end(rt.alloc(), caches::RUNS)?);
     Ok(())
 }
 
@@ -136,5 +137,6 @@ fn rules_are_tried(rt: HostRuntime) -> Result<(), Fail> {
     assert!(rt; all_are_judged(rt.alloc(), units::RULES)?);
     assert!(rt; all_are_judged(rt.alloc(), loads::RULES)?);
     assert!(rt; all_are_judged(rt.alloc(), csrs::RULES)?);
+    assert!(rt; all_are_judged(rt.alloc(), caches::RULES)?);
     Ok(())
 }
