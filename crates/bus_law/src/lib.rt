@@ -17,6 +17,3 @@ pub use laws::{
 };
 pub use memory::Mem;
 pub use signals::{BusIn, BusOut};
-
-#[cfg(test)]
-mod tests;

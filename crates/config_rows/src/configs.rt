@@ -1,7 +1,6 @@
 use core_config::{ConfigRefusal, KeyPath, read_config};
 use stage_map::{Config, ParamValue};
 use std::alloc::{AllocError, Global};
-use std::test::Fail;
 
 /// A key as it is printed.
 fn path(alloc: Global, key: &KeyPath) -> Result<String, AllocError> {
@@ -219,33 +218,41 @@ kind = \"dbus\"
     ("memory.schema = 1\nmemory.size = 1", "range memory.size 1"),
 ];
 
-#[test]
-fn texts_are_read_or_refused(rt: HostRuntime) -> Result<(), Fail> {
-    let alloc = rt.alloc();
-    for (text, want) in TEXTS {
-        let read = read(alloc, text.as_bytes())?;
-        assert_eq!(rt; read.as_str(), *want, "at {text}");
+/// Texts that are written so many times, and what is read of the whole.
+const REPEATED: &[(&str, u32, &str)] = &[
+    (
+        "[[plugin]]\nkind = \"a\"\n",
+        32,
+        "Claimed 80000000 4 Execute 80000000+65536 a a a a a a a a a a a a a a a a a a a a a a a a a a a a a a a a",
+    ),
+    ("[[plugin]]\n", 33, "range plugin 33"),
+    ("\n", 1_048_576, "Claimed 80000000 4 Execute 80000000+65536"),
+    ("\u{7f}", 1_048_577, "long 1048577"),
+];
+
+/// Whether these bytes are read so.
+fn is_read(alloc: Global, bytes: &[u8], want: &str) -> Result<bool, AllocError> {
+    let found = read(alloc, bytes)?;
+    Ok(found.as_str() == want)
+}
+
+/// The number of the first text of which something else is read.
+pub fn first_wrong(alloc: Global) -> Result<Option<usize>, AllocError> {
+    for (number, (text, want)) in TEXTS.iter().enumerate() {
+        if !is_read(alloc, text.as_bytes(), *want)? {
+            return Ok(Some(number));
+        }
     }
-    let most = repeated(alloc, "[[plugin]]\nkind = \"a\"\n", 32)?;
-    let entries = repeated(alloc, " a", 32)?;
-    let want = format!(in alloc; "Claimed 80000000 4 Execute 80000000+65536{entries}")?;
-    assert_eq!(rt; read(alloc, most.as_str().as_bytes())?, want);
-    let more = repeated(alloc, "[[plugin]]\n", 33)?;
-    assert_eq!(rt;
-        read(alloc, more.as_str().as_bytes())?.as_str(),
-        "range plugin 33"
-    );
-    let blank = repeated(alloc, "\n", 1_048_576)?;
-    assert_eq!(rt;
-        read(alloc, blank.as_str().as_bytes())?.as_str(),
-        "Claimed 80000000 4 Execute 80000000+65536"
-    );
-    let long = repeated(alloc, "\u{7f}", 1_048_577)?;
-    assert_eq!(rt;
-        read(alloc, long.as_str().as_bytes())?.as_str(),
-        "long 1048577"
-    );
-    assert_eq!(rt; read(alloc, b"a = \"\xff\"")?.as_str(), "text");
-    assert_eq!(rt; read(alloc, b"\xff")?.as_str(), "text");
-    Ok(())
+    Ok(None)
+}
+
+/// Whether the repeated texts are read as they are to be, and what is no UTF-8 is refused.
+pub fn long_and_broken_are_read(alloc: Global) -> Result<bool, AllocError> {
+    for (text, count, want) in REPEATED {
+        let whole = repeated(alloc, *text, *count)?;
+        if !is_read(alloc, whole.as_str().as_bytes(), *want)? {
+            return Ok(false);
+        }
+    }
+    Ok(is_read(alloc, b"a = \"\xff\"", "text")? && is_read(alloc, b"\xff", "text")?)
 }

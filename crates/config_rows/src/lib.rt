@@ -7,4 +7,6 @@ mod configs;
 #[cfg(test)]
 mod maps;
 #[cfg(test)]
+mod rows;
+#[cfg(test)]
 mod services;

@@ -16,6 +16,3 @@ pub use memory::{MemFile, MemHost};
 pub use name::Name;
 pub use real::RealHost;
 pub use text::TextHost;
-
-#[cfg(test)]
-mod tests;

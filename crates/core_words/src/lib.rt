@@ -8,6 +8,3 @@ mod fields;
 
 pub use bytes::{put_le, word_le};
 pub use fields::{bits, mask_of, sext, wrap_add};
-
-#[cfg(test)]
-mod tests;

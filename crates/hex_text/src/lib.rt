@@ -4,6 +4,3 @@
 mod digits;
 
 pub use digits::hex_digits;
-
-#[cfg(test)]
-mod tests;

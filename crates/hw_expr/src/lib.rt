@@ -21,6 +21,3 @@ pub use law::{bound, signed_order};
 pub use net::Net;
 pub use signed::{lts, sra_by};
 pub use single::{add, and, cat, eq, lit, ltu, mux, not, or, put, slice, sub, xor};
-
-#[cfg(test)]
-mod tests;

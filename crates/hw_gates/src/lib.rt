@@ -14,6 +14,3 @@
 mod gate;
 
 pub use gate::{add, and, cat, eq, lit, ltu, mux, not, or, slice, sub, xor};
-
-#[cfg(test)]
-mod tests;

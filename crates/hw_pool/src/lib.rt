@@ -14,6 +14,3 @@ mod pool;
 pub use law::{takes_higher, trees_unfold, values_fit};
 pub use node::{Node, NodeId, Op};
 pub use pool::{MOST_NODES, Pool, PoolFault};
-
-#[cfg(test)]
-mod tests;

@@ -17,6 +17,3 @@ pub use immediate::{immediate_b, immediate_i, immediate_j, immediate_s, immediat
 pub use law::{adder_is_right, fields_are_met, halves_compare, one_is_gathered, shifts_are_right};
 pub use shift::{reverse, shifted};
 pub use sum::adder;
-
-#[cfg(test)]
-mod tests;

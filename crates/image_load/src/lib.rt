@@ -6,6 +6,3 @@ mod refusal;
 
 pub use raw::load_raw;
 pub use refusal::{ImageRefusal, MOST_BYTES};
-
-#[cfg(test)]
-mod tests;

@@ -21,6 +21,3 @@ pub fn rows_are_disjoint()
 pub fn uses_are_exact()
     ensures { (i : ℕ) → i < length table → IsExact (get_or table i lui) }
 {}
-
-#[cfg(test)]
-mod tests;

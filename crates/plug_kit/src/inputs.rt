@@ -94,7 +94,6 @@ pub struct SystemInputs {
 }
 
 /// Makes an input of `width` bits and of this level. It takes no memory.
-#[tactic(auto, using(crate::proofs::Steps::one_input))]
 pub fn input_wire(b: &mut Builder, width: u32, level: u32) -> u32
     requires room { 1 ≤ b.old.design.room }
     requires width { IsWidth width }

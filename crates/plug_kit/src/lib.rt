@@ -23,6 +23,3 @@ pub use law::{
     services_are_offered, things_are_found, units_build, wires_beside_inputs,
 };
 pub use read::{cell_net, port_net, reg_net, wire_net};
-
-#[cfg(test)]
-mod tests;

@@ -70,10 +70,10 @@ fn said<P: Plugin>(alloc: Global, plug: &mut P, given: &PlugEntry) -> Result<Str
 }
 
 /// Whether a plug-in says of each entry what its row has. It is asked of one behind the other: what it took before is of no account.
-fn all_hold<P: Plugin>(alloc: Global, plug: &mut P, rows: &[Row]) -> Result<bool, AllocError> {
+fn all_hold<P: Plugin>(alloc: Global, mut plug: P, rows: &[Row]) -> Result<bool, AllocError> {
     for (params, wanted) in rows {
         let given = entry(alloc, *params)?;
-        let said = said(alloc, plug, &given)?;
+        let said = said(alloc, &mut plug, &given)?;
         if said.as_str() != *wanted {
             return Ok(false);
         }
@@ -125,13 +125,6 @@ const FETCH: &[Row] = &[
     ),
 ];
 
-#[test]
-fn fetch_says_of_its_entries(rt: HostRuntime) -> Result<(), Fail> {
-    let mut plug = Fetch::new(rt.alloc())?;
-    assert!(rt; all_hold(rt.alloc(), &mut plug, FETCH)?);
-    Ok(())
-}
-
 const DECODER: &[Row] = &[
     (&[], "decoder 0 0"),
     (
@@ -144,13 +137,6 @@ const DECODER: &[Row] = &[
     ),
 ];
 
-#[test]
-fn decoder_says_of_its_entries(rt: HostRuntime) -> Result<(), Fail> {
-    let mut plug = Decoder::new(rt.alloc())?;
-    assert!(rt; all_hold(rt.alloc(), &mut plug, DECODER)?);
-    Ok(())
-}
-
 const REGFILE: &[Row] = &[
     (&[], "regfile 0 0"),
     (
@@ -158,13 +144,6 @@ const REGFILE: &[Row] = &[
         "Unknown { key: Name { text: \"ports\" } }",
     ),
 ];
-
-#[test]
-fn regfile_says_of_its_entries(rt: HostRuntime) -> Result<(), Fail> {
-    let mut plug = RegFile::new(rt.alloc())?;
-    assert!(rt; all_hold(rt.alloc(), &mut plug, REGFILE)?);
-    Ok(())
-}
 
 const HAZARD: &[Row] = &[
     (&[], "hazard 0 0"),
@@ -184,13 +163,6 @@ const HAZARD: &[Row] = &[
     ),
 ];
 
-#[test]
-fn hazard_says_of_its_entries(rt: HostRuntime) -> Result<(), Fail> {
-    let mut plug = Hazard::new(rt.alloc())?;
-    assert!(rt; all_hold(rt.alloc(), &mut plug, HAZARD)?);
-    Ok(())
-}
-
 const ALU: &[Row] = &[
     (&[], "alu 1 0"),
     (
@@ -198,13 +170,6 @@ const ALU: &[Row] = &[
         "Unknown { key: Name { text: \"bits\" } }",
     ),
 ];
-
-#[test]
-fn alu_says_of_its_entries(rt: HostRuntime) -> Result<(), Fail> {
-    let mut plug = Alu::new(rt.alloc())?;
-    assert!(rt; all_hold(rt.alloc(), &mut plug, ALU)?);
-    Ok(())
-}
 
 const SRL: &[Row] = &[
     (&[], "srl 1 0"),
@@ -214,13 +179,6 @@ const SRL: &[Row] = &[
     ),
 ];
 
-#[test]
-fn srl_says_of_its_entries(rt: HostRuntime) -> Result<(), Fail> {
-    let mut plug = Srl::new(rt.alloc())?;
-    assert!(rt; all_hold(rt.alloc(), &mut plug, SRL)?);
-    Ok(())
-}
-
 const DBUS: &[Row] = &[
     (&[], "dbus 4 2"),
     (
@@ -229,13 +187,6 @@ const DBUS: &[Row] = &[
     ),
 ];
 
-#[test]
-fn dbus_says_of_its_entries(rt: HostRuntime) -> Result<(), Fail> {
-    let mut plug = Dbus::new(rt.alloc())?;
-    assert!(rt; all_hold(rt.alloc(), &mut plug, DBUS)?);
-    Ok(())
-}
-
 const BRANCH: &[Row] = &[
     (&[], "branch 1 0"),
     (
@@ -243,13 +194,6 @@ const BRANCH: &[Row] = &[
         "Unknown { key: Name { text: \"bits\" } }",
     ),
 ];
-
-#[test]
-fn branch_says_of_its_entries(rt: HostRuntime) -> Result<(), Fail> {
-    let mut plug = Branch::new(rt.alloc())?;
-    assert!(rt; all_hold(rt.alloc(), &mut plug, BRANCH)?);
-    Ok(())
-}
 
 const PREDICT: &[Row] = &[
     (&[], "predict 0 0"),
@@ -301,13 +245,6 @@ const PREDICT: &[Row] = &[
     ),
 ];
 
-#[test]
-fn predict_says_of_its_entries(rt: HostRuntime) -> Result<(), Fail> {
-    let mut plug = Predict::new(rt.alloc())?;
-    assert!(rt; all_hold(rt.alloc(), &mut plug, PREDICT)?);
-    Ok(())
-}
-
 const MULDIV: &[Row] = &[
     (&[], "muldiv 36 0"),
     (&[("unroll", Given::Num(1))], "muldiv 36 0"),
@@ -355,13 +292,6 @@ const MULDIV: &[Row] = &[
     ),
 ];
 
-#[test]
-fn muldiv_says_of_its_entries(rt: HostRuntime) -> Result<(), Fail> {
-    let mut plug = Muldiv::new(rt.alloc())?;
-    assert!(rt; all_hold(rt.alloc(), &mut plug, MULDIV)?);
-    Ok(())
-}
-
 const SHIFT_LIGHT: &[Row] = &[
     (&[], "shift_light 33 0"),
     (
@@ -373,13 +303,6 @@ const SHIFT_LIGHT: &[Row] = &[
         "Unknown { key: Name { text: \"fast\" } }",
     ),
 ];
-
-#[test]
-fn shift_light_says_of_its_entries(rt: HostRuntime) -> Result<(), Fail> {
-    let mut plug = ShiftLight::new(rt.alloc())?;
-    assert!(rt; all_hold(rt.alloc(), &mut plug, SHIFT_LIGHT)?);
-    Ok(())
-}
 
 const SHIFT_BARREL: &[Row] = &[
     (&[], "shift_barrel 1 0"),
@@ -393,9 +316,33 @@ const SHIFT_BARREL: &[Row] = &[
     ),
 ];
 
+/// Whether the plug-ins of the pipeline say of their entries what they are to say.
+fn pipeline_holds(alloc: Global) -> Result<bool, AllocError> {
+    Ok(
+        all_hold(alloc, Fetch::new(alloc)?, FETCH)?
+            && all_hold(alloc, Decoder::new(alloc)?, DECODER)?
+            && all_hold(alloc, RegFile::new(alloc)?, REGFILE)?
+            && all_hold(alloc, Hazard::new(alloc)?, HAZARD)?
+            && all_hold(alloc, Predict::new(alloc)?, PREDICT)?,
+    )
+}
+
+/// Whether those of the units do.
+fn units_hold(alloc: Global) -> Result<bool, AllocError> {
+    Ok(
+        all_hold(alloc, Alu::new(alloc)?, ALU)?
+            && all_hold(alloc, Srl::new(alloc)?, SRL)?
+            && all_hold(alloc, Dbus::new(alloc)?, DBUS)?
+            && all_hold(alloc, Branch::new(alloc)?, BRANCH)?
+            && all_hold(alloc, Muldiv::new(alloc)?, MULDIV)?
+            && all_hold(alloc, ShiftLight::new(alloc)?, SHIFT_LIGHT)?
+            && all_hold(alloc, ShiftBarrel::new(alloc)?, SHIFT_BARREL)?,
+    )
+}
+
 #[test]
-fn shift_barrel_says_of_its_entries(rt: HostRuntime) -> Result<(), Fail> {
-    let mut plug = ShiftBarrel::new(rt.alloc())?;
-    assert!(rt; all_hold(rt.alloc(), &mut plug, SHIFT_BARREL)?);
+fn plugins_say_of_their_entries(rt: HostRuntime) -> Result<(), Fail> {
+    let alloc = rt.alloc();
+    assert!(rt; pipeline_holds(alloc)? && units_hold(alloc)?);
     Ok(())
 }

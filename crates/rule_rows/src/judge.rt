@@ -1,4 +1,4 @@
-use crate::are_specs;
+use crate::fit::are_specs;
 use crate::own::{KINDS, OWN, spec};
 use core_config::read_config;
 use core_host::Name;

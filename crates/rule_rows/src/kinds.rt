@@ -3,7 +3,6 @@ use plug_api::Place;
 use plug_kinds::{Kind, KindState, is_spec};
 use service_reg::Service;
 use std::alloc::{AllocError, Global};
-use std::test::Fail;
 
 /// What a plug-in says once it is given parameters: its delay, or the fault.
 fn taken(alloc: Global, state: &mut KindState, params: Params) -> Result<String, AllocError> {
@@ -332,20 +331,22 @@ fn is_taken(alloc: Global, kind: Kind, params: Params, wanted: &str) -> Result<b
     Ok(kept && found.as_str() == wanted)
 }
 
-#[test]
-fn kinds_take_their_parameters(rt: HostRuntime) -> Result<(), Fail> {
-    let alloc = rt.alloc();
+/// Whether each kind takes its parameters.
+pub fn parameters_are_taken(alloc: Global) -> Result<bool, AllocError> {
     for (kind, params, wanted) in PARAMS {
-        assert!(rt; is_taken(alloc, *kind, *params, *wanted)?, "{wanted}");
+        if !is_taken(alloc, *kind, *params, *wanted)? {
+            return Ok(false);
+        }
     }
-    Ok(())
+    Ok(true)
 }
 
-#[test]
-fn not_all_may_be_said(rt: HostRuntime) -> Result<(), Fail> {
-    let alloc = rt.alloc();
+/// Whether a plug-in may say of itself what it may, and nothing else.
+pub fn specs_are_right(alloc: Global) -> Result<bool, AllocError> {
     for (own, may) in SPECS {
-        assert!(rt; is_spec(&spec(alloc, *own)?) == *may);
+        if is_spec(&spec(alloc, *own)?) != *may {
+            return Ok(false);
+        }
     }
-    Ok(())
+    Ok(true)
 }

@@ -4,6 +4,7 @@
 
 #[cfg(test)]
 mod calls;
+#[cfg(test)]
 mod fit;
 #[cfg(test)]
 mod judge;
@@ -14,6 +15,6 @@ mod own;
 #[cfg(test)]
 mod plans;
 #[cfg(test)]
+mod rows;
+#[cfg(test)]
 mod rules;
-
-pub use fit::are_specs;

@@ -1,11 +1,10 @@
-use crate::are_specs;
+use crate::fit::are_specs;
 use crate::own::{KINDS, OWN, spec};
 use isa_table::Claim;
 use plug_api::{Checked, OwnedClaim, PlugSpec, RuleRefusal, check_specs};
 use plug_kinds::spec_of;
 use stage_map::{CoreShape, Isa, Stage};
 use std::alloc::{AllocError, Global};
-use std::test::Fail;
 
 /// What the plug-in of this number says of itself without parameters: the kinds come first, and then those of no kind.
 fn spec_at(alloc: Global, pick: u32) -> Result<PlugSpec, AllocError> {
@@ -152,9 +151,8 @@ fn is_found(found: &Checked, order: &[u32], rows: usize, has_csr: bool, wanted: 
         && found.wanted == wanted
 }
 
-#[test]
-fn each_core_has_its_plan(rt: HostRuntime) -> Result<(), Fail> {
-    let alloc = rt.alloc();
+/// Whether each core has its plan.
+pub fn plans_are_right(alloc: Global) -> Result<bool, AllocError> {
     for (isa, names, picks, order, rows, has_csr, wanted) in PLANS {
         let specs = specs_at(alloc, *picks)?;
         let named = names_of(alloc, &specs)?.as_str() == *names;
@@ -162,9 +160,11 @@ fn each_core_has_its_plan(rt: HostRuntime) -> Result<(), Fail> {
             Ok(found) => is_found(&found, *order, *rows, *has_csr, *wanted),
             Err(_refusal) => false,
         };
-        assert!(rt; named && found, "{names}");
+        if !named || !found {
+            return Ok(false);
+        }
     }
-    Ok(())
+    Ok(true)
 }
 
 /// Whether the claims are those of `alu`, as the entry of number 4.
@@ -185,14 +185,11 @@ fn are_computes(claims: &Vec<OwnedClaim>) -> bool {
     claims[9].claim == sub
 }
 
-#[test]
-fn claims_have_their_entries(rt: HostRuntime) -> Result<(), Fail> {
-    let alloc = rt.alloc();
+/// Whether claims have their entries.
+pub fn claims_are_right(alloc: Global) -> Result<bool, AllocError> {
     let specs = specs_at(alloc, &[0, 4, 5, 6, 7])?;
-    let right = match checked(alloc, Isa::Claimed, &specs) {
-        Ok(found) => are_computes(&found.claims),
-        Err(_refusal) => false,
-    };
-    assert!(rt; right);
-    Ok(())
+    match checked(alloc, Isa::Claimed, &specs) {
+        Ok(found) => Ok(are_computes(&found.claims)),
+        Err(_refusal) => Ok(false),
+    }
 }

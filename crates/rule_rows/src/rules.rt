@@ -3,7 +3,6 @@ use core_host::{List, MemFile, MemHost, Name, Port};
 use core_tool::push_rule;
 use plug_kinds::KindState;
 use std::alloc::{AllocError, Global};
-use std::test::Fail;
 
 /// The room of each port, in bytes.
 const ROOM: u32 = 33_554_432;
@@ -121,24 +120,17 @@ pub fn is_line(host: &MemHost, line: &str) -> bool {
     host.pushed(Port::Main).is_empty() && notes == line.as_bytes()
 }
 
-/// The text of the first configuration whose line is another; none where each is as it should be.
-fn first_wrong(alloc: Global, states: &mut Vec<KindState>) -> Result<String, AllocError> {
+/// Whether the first rule that fails is told of each configuration.
+pub fn rules_are_told(alloc: Global) -> Result<bool, AllocError> {
+    let mut states = states(alloc)?;
     for (head, entries, line) in ROWS {
         let text = text_of(alloc, *head, *entries)?;
-        let host = said(alloc, states, &text)?;
+        let host = said(alloc, &mut states, &text)?;
         if !is_line(&host, *line) {
-            return Ok(text);
+            return Ok(false);
         }
     }
-    Ok(String::new(alloc))
-}
-
-#[test]
-fn the_first_rule_that_fails_is_told(rt: HostRuntime) -> Result<(), Fail> {
-    let alloc = rt.alloc();
-    let mut states = states(alloc)?;
-    assert_eq!(rt; first_wrong(alloc, &mut states)?.as_str(), "");
-    Ok(())
+    Ok(true)
 }
 
 /// Entries that are given to the same plug-ins in turn: the line on the rule that fails, and the delays of the cache and of
@@ -193,23 +185,16 @@ fn are_delays(states: &Vec<KindState>, cache: (u32, u32), product: (u32, u32)) -
     states.len() == 14 && states[1].spec().latency == cache && states[10].spec().latency == product
 }
 
-/// The text of the first step that ends otherwise; none where each ends as it should.
-fn first_wrong_step(alloc: Global, states: &mut Vec<KindState>) -> Result<String, AllocError> {
+/// Whether each step ends as it should: the plug-ins before one that refuses took their entries, it is as it was, and so are those
+/// behind it.
+pub fn refusals_leave_what_was_taken(alloc: Global) -> Result<bool, AllocError> {
+    let mut states = states(alloc)?;
     for (entries, line, cache, product) in STEPS {
         let text = text_of(alloc, "", *entries)?;
-        let host = said(alloc, states, &text)?;
-        if !is_line(&host, *line) || !are_delays(states, *cache, *product) {
-            return Ok(text);
+        let host = said(alloc, &mut states, &text)?;
+        if !is_line(&host, *line) || !are_delays(&states, *cache, *product) {
+            return Ok(false);
         }
     }
-    Ok(String::new(alloc))
-}
-
-/// The plug-ins before one that refuses took their entries, it is as it was, and so are those behind it.
-#[test]
-fn a_refusal_leaves_what_was_taken(rt: HostRuntime) -> Result<(), Fail> {
-    let alloc = rt.alloc();
-    let mut states = states(alloc)?;
-    assert_eq!(rt; first_wrong_step(alloc, &mut states)?.as_str(), "");
-    Ok(())
+    Ok(true)
 }

@@ -14,6 +14,3 @@ pub use build::Build;
 pub use node::Node;
 pub use sim::FlatSim;
 pub use sweep::ArrayWrite;
-
-#[cfg(test)]
-mod tests;

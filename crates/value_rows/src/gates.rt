@@ -1,10 +1,13 @@
-use crate::{add, and, cat, eq, lit, ltu, mux, not, or, slice, sub, xor};
+use hw_gates::{add, and, cat, eq, lit, ltu, mux, not, or, slice, sub, xor};
 use hw_pool::Pool;
+use std::alloc::Global;
 
-#[test]
-fn each_operator_has_its_width(rt: HostRuntime) {
-    let mut pool = Pool::new(rt.alloc());
-    pool.reserve(14).expect(&rt, "room");
+/// Whether each operator has its width.
+pub fn widths_are_right(alloc: Global) -> bool {
+    let mut pool = Pool::new(alloc);
+    if pool.reserve(14).is_err() {
+        return false;
+    }
     let a = lit(&mut pool, 4, 12);
     let b = lit(&mut pool, 4, 10);
     let c = lit(&mut pool, 1, 1);
@@ -21,5 +24,5 @@ fn each_operator_has_its_width(rt: HostRuntime) {
         cat(&mut pool, a, c).width,
         slice(&mut pool, a, 2, 1).width,
     ];
-    assert_eq!(rt; widths, [4, 4, 4, 4, 4, 4, 1, 1, 4, 5, 2]);
+    widths == [4, 4, 4, 4, 4, 4, 1, 1, 4, 5, 2]
 }

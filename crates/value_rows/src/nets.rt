@@ -1,7 +1,7 @@
 ghost use Rattle.std.specs.Prelude.{◌≡◌, ◌≤◌};
 ghost use Rattle.hw_expr.specs.Nets.{IsNet};
 
-use crate::{
+use hw_expr::{
     Net, add, and, cat, eq, lts, ltu, mux, mux_tree, not, one_hot, or, put, slice, sra_by, sub, xor,
 };
 use hw_pool::{NodeId, Op, Pool};
@@ -83,7 +83,7 @@ fn value(alloc: Global, pool: &Pool, inputs: &[u64], net: Net) -> Result<u64, Al
 }
 
 /// A call of this crate.
-#[derive(Clone, Copy, Debug)]
+#[derive(Clone, Copy)]
 enum Call {
     Not,
     And,
@@ -138,35 +138,47 @@ fn called(pool: &mut Pool, call: Call, a: Net, b: Net) -> Net
     }
 }
 
-#[test]
-fn each_call_has_its_values(rt: HostRuntime) {
-    for (call, wanted) in [
-        (Call::Not, [0x4b, 0xb2, 0xf8]),
-        (Call::And, [0x04, 0x04, 0x07]),
-        (Call::Or, [0xfd, 0xfd, 0x07]),
-        (Call::Xor, [0xf9, 0xf9, 0x00]),
-        (Call::Add, [0x01, 0x01, 0x0e]),
-        (Call::Sub, [0x67, 0x99, 0x00]),
-        (Call::Eq, [0, 0, 1]),
-        (Call::Ltu, [0, 1, 0]),
-        (Call::Lts, [1, 0, 0]),
-        (Call::Cat, [0xb44d, 0x4db4, 0x0707]),
-        (Call::Slice, [0x6, 0x9, 0x0]),
-        (Call::Mux, [0xb4, 0xb4, 0x07]),
-        (Call::SraBy, [0xf6, 0x09, 0x00]),
-        (Call::MuxTree, [0x4d, 0x4d, 0x07]),
-        (Call::OneHot, [0x10, 0x20, 0x80]),
-    ] {
-        let mut pool = Pool::new(rt.alloc());
-        pool.reserve(110).expect(&rt, "room");
-        let a = put(&mut pool, Op::Input(0), 8, 3);
-        let b = put(&mut pool, Op::Input(1), 8, 5);
-        let net = called(&mut pool, call, a, b);
-        let found = [
-            value(rt.alloc(), &pool, &[0xb4, 0x4d], net).expect(&rt, "room"),
-            value(rt.alloc(), &pool, &[0x4d, 0xb4], net).expect(&rt, "room"),
-            value(rt.alloc(), &pool, &[7, 7], net).expect(&rt, "room"),
-        ];
-        assert_eq!(rt; found, wanted);
+/// Calls, and the value of each over b4 and 4d, over 4d and b4, and over 7 and 7.
+const CALLS: &[(Call, [u64; 3])] = &[
+    (Call::Not, [0x4b, 0xb2, 0xf8]),
+    (Call::And, [0x04, 0x04, 0x07]),
+    (Call::Or, [0xfd, 0xfd, 0x07]),
+    (Call::Xor, [0xf9, 0xf9, 0x00]),
+    (Call::Add, [0x01, 0x01, 0x0e]),
+    (Call::Sub, [0x67, 0x99, 0x00]),
+    (Call::Eq, [0, 0, 1]),
+    (Call::Ltu, [0, 1, 0]),
+    (Call::Lts, [1, 0, 0]),
+    (Call::Cat, [0xb44d, 0x4db4, 0x0707]),
+    (Call::Slice, [0x6, 0x9, 0x0]),
+    (Call::Mux, [0xb4, 0xb4, 0x07]),
+    (Call::SraBy, [0xf6, 0x09, 0x00]),
+    (Call::MuxTree, [0x4d, 0x4d, 0x07]),
+    (Call::OneHot, [0x10, 0x20, 0x80]),
+];
+
+/// The values of a call.
+fn values(alloc: Global, call: Call) -> Result<[u64; 3], AllocError> {
+    let mut pool = Pool::new(alloc);
+    if pool.reserve(110).is_err() {
+        return Err(AllocError);
     }
+    let a = put(&mut pool, Op::Input(0), 8, 3);
+    let b = put(&mut pool, Op::Input(1), 8, 5);
+    let net = called(&mut pool, call, a, b);
+    Ok([
+        value(alloc, &pool, &[0xb4, 0x4d], net)?,
+        value(alloc, &pool, &[0x4d, 0xb4], net)?,
+        value(alloc, &pool, &[7, 7], net)?,
+    ])
+}
+
+/// Whether each call has its values.
+pub fn values_are_right(alloc: Global) -> Result<bool, AllocError> {
+    for (call, wanted) in CALLS {
+        if values(alloc, *call)? != *wanted {
+            return Ok(false);
+        }
+    }
+    Ok(true)
 }

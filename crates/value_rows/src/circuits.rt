@@ -4,13 +4,14 @@ ghost use Rattle.hw_pool.specs.Meaning.{Env};
 ghost use Rattle.hw_pool.specs.Scope.{Scope};
 ghost use Rattle.hw_gates.specs.Places.{Is, IsIn, Step, value_in};
 
-use crate::{
-    adder, copies, gather, immediate_b, immediate_i, immediate_j, immediate_s, immediate_u, lower,
-    reverse, same, shifted,
-};
 use hw_expr::Net;
 use hw_gates::{and, cat, eq, lit, ltu, mux, or, slice, xor};
 use hw_pool::Pool;
+use hw_words::{
+    adder, copies, gather, immediate_b, immediate_i, immediate_j, immediate_s, immediate_u, lower,
+    reverse, same, shifted,
+};
+use std::alloc::Global;
 
 /// Twelve calls over four nets, proved with no proof file.
 fn mixed(pool: &mut Pool, c: Net, a: Net, b: Net, d: Net) -> Net
@@ -44,32 +45,44 @@ fn mixed(pool: &mut Pool, c: Net, a: Net, b: Net, d: Net) -> Net
     mux(pool, is_picked, picked, joined)
 }
 
-#[test]
-fn circuits_have_their_widths(rt: HostRuntime) {
-    let mut pool = Pool::new(rt.alloc());
-    pool.reserve(256).expect(&rt, "room");
+/// Whether each circuit has its width.
+pub fn widths_are_right(alloc: Global) -> bool {
+    let mut pool = Pool::new(alloc);
+    if pool.reserve(256).is_err() {
+        return false;
+    }
     let bit = lit(&mut pool, 1, 1);
     let word = lit(&mut pool, 32, 0xdead_beef);
     let amount = slice(&mut pool, word, 4, 0);
     let (sum, carry) = adder(&mut pool, bit, word, word);
     let ones = copies(&mut pool, bit, 5);
     let seven = gather(&mut pool, bit, 7, ones);
-    assert_eq!(rt;
-        (sum.width, carry.width, ones.width, seven.width),
-        (32, 1, 5, 5)
-    );
     let i = immediate_i(&mut pool, word);
     let s = immediate_s(&mut pool, word);
     let u = immediate_u(&mut pool, word);
-    assert_eq!(rt; (i.width, s.width, u.width), (32, 32, 32));
     let b = immediate_b(&mut pool, word);
     let j = immediate_j(&mut pool, word);
     let mixed = mixed(&mut pool, bit, word, b, j);
-    assert_eq!(rt; (b.width, j.width, mixed.width), (32, 32, 32));
     let less = lower(&mut pool, bit, word, mixed);
     let equal = same(&mut pool, word, mixed);
-    assert_eq!(rt; (less.width, equal.width), (1, 1));
     let back = reverse(&mut pool, word);
     let moved = shifted(&mut pool, amount, bit, back);
-    assert_eq!(rt; (back.width, moved.width, moved.level), (32, 32, 0));
+    let widths = [
+        sum.width,
+        carry.width,
+        ones.width,
+        seven.width,
+        i.width,
+        s.width,
+        u.width,
+        b.width,
+        j.width,
+        mixed.width,
+        less.width,
+        equal.width,
+        back.width,
+        moved.width,
+        moved.level,
+    ];
+    widths == [32, 1, 5, 5, 32, 32, 32, 32, 32, 32, 1, 1, 32, 32, 0]
 }
