@@ -10,6 +10,7 @@ use Rattle.verilog_mean.specs.declared.refusal.MeanRefusal.TheVariants as mean
 use Rattle.verilog_read.specs.declared.refusal.ReadRefusal.{ReadRefusal}
 use Rattle.verilog_read.specs.declared.refusal.ReadRefusal.TheVariants.{TooLong, Unsupported, Text, NoMemory}
 use Rattle.verilog_read.specs.Outcome.{IsTree}
+use Rattle.verilog_read.specs.Places.{IsInPlace}
 use Rattle.verilog_rules.specs.Refusals.{IsFirstRefusal}
 use Rattle.verilog_load.specs.Told.{HasNoTree, IsUnsound, IsTold, unread_as, unsound_as}
 
@@ -43,13 +44,14 @@ pub unread_told : (bytes : List ℕ) (e : ReadRefusal)
     → (◌≡◌ {A = Result Tree ReadRefusal} (Err e) (Err (TooLong (length bytes)))) ↔ (16777216 < length bytes)
     → ((len : ℕ) → (◌≡◌ {A = Result Tree ReadRefusal} (Err e) (Err (TooLong len))) → len ≡ length bytes)
     → ((t : Tree) → length bytes ≤ 16777216 → Reads bytes t → IsTree (Err e) t)
+    → IsInPlace bytes e
     → IsTold bytes (unread_as e)
-unread_told bytes NoMemory long told only = tt
-unread_told bytes (TooLong len) long told only =
+unread_told bytes NoMemory long told only place = tt
+unread_told bytes (TooLong len) long told only place =
     let same = told len refl in
     (same, long.0 (ap (λ n. Err (TooLong n)) same))
-unread_told bytes (Unsupported at form) long told only = no_tree bytes (Unsupported at form) (not_long (length bytes) (Unsupported at form) long (λ q. cc)) only (λ q. cc)
-unread_told bytes (Text at) long told only = no_tree bytes (Text at) (not_long (length bytes) (Text at) long (λ q. cc)) only (λ q. cc)
+unread_told bytes (Unsupported at form) long told only place = (no_tree bytes (Unsupported at form) (not_long (length bytes) (Unsupported at form) long (λ q. cc)) only (λ q. cc), place)
+unread_told bytes (Text at) long told only place = (no_tree bytes (Text at) (not_long (length bytes) (Text at) long (λ q. cc)) only (λ q. cc), place)
 
 -- a sound tree of a text is refused for want of memory alone
 pub sound_refused : (bytes : List ℕ) (u t : Tree) (e : MeanRefusal) → Reads bytes u → Reads bytes t → IsSound t

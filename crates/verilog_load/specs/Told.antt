@@ -4,6 +4,7 @@ use Rattle.verilog_tree.specs.declared.tree.Tree.{Tree}
 use Rattle.verilog_tree.specs.Module.{Reads}
 use Rattle.verilog_read.specs.declared.refusal.ReadRefusal.{ReadRefusal}
 use Rattle.verilog_read.specs.declared.refusal.ReadRefusal.TheVariants as read
+use Rattle.verilog_read.specs.Places.{IsInPlace}
 use Rattle.verilog_mean.specs.declared.refusal.MeanRefusal.{MeanRefusal}
 use Rattle.verilog_mean.specs.declared.refusal.MeanRefusal.TheVariants as mean
 use Rattle.verilog_mean.specs.Sound.{IsSound}
@@ -36,11 +37,12 @@ pub record HasNoTree (bytes : List ℕ) : Type 0 where
   pub short : length bytes ≤ 16777216
   pub none : (t : Tree) → Reads bytes t → ⊥
 
--- The reader refuses a text: its length is told exactly above the limit, and else it has no tree. It is never want of memory.
+-- The reader refuses a text: its length is told exactly above the limit, and else it has no tree, and the place is where reading
+-- stops. It is never want of memory.
 abbrev pub IsUnread : List ℕ → ReadRefusal → Type 0
 IsUnread bytes (read.TooLong len) = (len ≡ length bytes) × (16777216 < length bytes)
-IsUnread bytes (read.Unsupported at form) = HasNoTree bytes
-IsUnread bytes (read.Text at) = HasNoTree bytes
+IsUnread bytes (read.Unsupported at form) = HasNoTree bytes × IsInPlace bytes (read.Unsupported at form)
+IsUnread bytes (read.Text at) = HasNoTree bytes × IsInPlace bytes (read.Text at)
 IsUnread bytes read.NoMemory = ⊥
 
 -- The checker refuses a text's tree, which is not sound, by its first refusal. It is never want of memory.

@@ -17,13 +17,13 @@ use Rattle.verilog_read.specs.Places.{HasFront, IsInPlace, IsRefused, StopsAt, r
 -- ---- where reading the tokens stops
 
 module _ (ts : List code.Placed) (end : ℕ) (form : Option UnsupportedForm) (r : ReadRefusal) where
-  pub by_error : (s : Stop) → module_of (length ts) (seen ts) ≡ Err s → StopsAt (Err s) end form r → (r ≡ NoMemory) ⊎ StopsAt (read (seen ts)) end form r
-  by_error s h stops = inr (subst (λ (o : Result Tree Stop). StopsAt o end form r) (sym (all_read ts ∙ ap finished h)) stops)
+  pub by_error : (s : Stop) → module_of (length ts) (seen ts) ≡ Err s → StopsAt (seen ts) (Err s) end form r → (r ≡ NoMemory) ⊎ StopsAt (seen ts) (read (seen ts)) end form r
+  by_error s h stops = inr (subst (λ (o : Result Tree Stop). StopsAt (seen ts) o end form r) (sym (all_read ts ∙ ap finished h)) stops)
 
   -- all of a module is read, and tokens are left
-  pub by_left : (rest : List code.Placed) (t : Tree) → module_of (length ts) (seen ts) ≡ Ok (t, seen rest) → eqb (length rest) 0 ≡ false → r ≡ wrong_at (seen rest) end form → (r ≡ NoMemory) ⊎ StopsAt (read (seen ts)) end form r
+  pub by_left : (rest : List code.Placed) (t : Tree) → module_of (length ts) (seen ts) ≡ Ok (t, seen rest) → eqb (length rest) 0 ≡ false → r ≡ wrong_at (seen rest) end form → (r ≡ NoMemory) ⊎ StopsAt (seen ts) (read (seen ts)) end form r
   by_left [] t h l e = absurd (let q : true ≡ false = l in cc)
-  by_left (p ∷ rest) t h l e = inr (subst (λ (o : Result Tree Stop). StopsAt o end form r) (sym (all_read ts ∙ ap finished h)) e)
+  by_left (p ∷ rest) t h l e = inr (subst (λ (o : Result Tree Stop). StopsAt (seen ts) o end form r) (sym (all_read ts ∙ ap finished h)) e)
 
 -- ---- the refusal of a text
 
@@ -35,10 +35,10 @@ module _ (bytes : List ℕ) (tokens : List Placed) (end : ℕ) (form : Option Un
   refused_at NoMemory h = tt
 
   -- reading the tokens stops
-  pub by_stop : (r : ReadRefusal) → (r ≡ NoMemory) ⊎ StopsAt (read tokens) end form r → IsInPlace bytes r
+  pub by_stop : (r : ReadRefusal) → (r ≡ NoMemory) ⊎ StopsAt tokens (read tokens) end form r → IsInPlace bytes r
   by_stop r (inl m) = subst (IsInPlace bytes) (sym m) tt
   by_stop r (inr s) = refused_at r (record { tokens = tokens; end = end; form = form; front = front; stops = s })
 
   -- all tokens are read, and a fault stands behind them
   pub by_fault : (t : Tree) (r : ReadRefusal) → SpellsModule t tokens → r ≡ refusal_at end form → IsInPlace bytes r
-  by_fault t r h e = by_stop r (inr (subst (λ (o : Result Tree Stop). StopsAt o end form r) (sym (read-is t tokens h)) e))
+  by_fault t r h e = by_stop r (inr (subst (λ (o : Result Tree Stop). StopsAt tokens o end form r) (sym (read-is t tokens h)) e))

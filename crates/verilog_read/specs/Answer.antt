@@ -9,7 +9,7 @@ use Rattle.verilog_read.specs.declared.cursor.Fault.TheVariants as fault
 abbrev pub Stops : {A : Type 0} → Result A Stop → Fault → List Placed → Type 0
 Stops read fault.NoMemory new = Unit {0}
 Stops read fault.Wrong new = read ≡ Err (Wrong new)
-Stops read (fault.Deep at) new = read ≡ Err (Deep new)
+Stops read fault.Deep new = read ≡ Err (Deep new)
 
 -- what was read, through a view, and the tokens behind it; or where reading stops
 abbrev pub Answers : {A B : Type 0} → (B → A) → Result (A × List Placed) Stop → Result B Fault → List Placed → Type 0

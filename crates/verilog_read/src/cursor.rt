@@ -10,13 +10,14 @@ use core_host::Name;
 use std::alloc::{AllocError, Global};
 use verilog_tree::{Ident, Lit, Num};
 
-/// Why the tokens were not read. The cursor then stands at the token with which nothing goes on.
+/// Why the tokens were not read. The cursor then stands at the token with which nothing goes on, or behind which an
+/// expression is too deep.
 #[derive(Clone, Copy, Debug, PartialEq, Eq)]
 pub enum Fault {
     NoMemory,
     Wrong,
-    /// The token at this place makes an expression too deep.
-    Deep { at: u32 },
+    /// An expression is too deep.
+    Deep,
 }
 
 impl From<AllocError> for Fault {
@@ -34,10 +35,6 @@ impl From<AllocError> for Fault {
 #[derive(Drop)]
 pub struct Cursor<'a> {
     pub tokens: &'a [Placed],
-    /// The place behind the last of them.
-    pub end: u32,
-    /// The place of the token by which an expression grows too deep, if its parts do.
-    pub taken: u32,
 }
 
 impl Cursor<'_> {
@@ -48,14 +45,6 @@ impl Cursor<'_> {
         let tokens = self.tokens;
         if let [_, rest @ ..] = tokens {
             self.tokens = rest;
-        }
-    }
-
-    /// The place of the next token, or behind the last.
-    pub fn place(&self) -> u32 {
-        match self.tokens {
-            [first, ..] => first.at,
-            [] => self.end,
         }
     }
 }

@@ -100,7 +100,6 @@ fn cell(
     ensures read { Answers (λ f. f.expr) (spec.cell (spec.parse depth) name bracket_at (seen cursor.old.tokens.now)) result (seen cursor.new.tokens.now) }
     ensures depth { HasDepth (depth + 1) result }
 {
-    cursor.taken = cursor.place();
     let index = parse(alloc, cursor, depth, 0)?;
     let _close = expect(cursor, Sign::CloseBracket)?;
     Ok(Found {
@@ -219,12 +218,10 @@ fn start(alloc: Global, cursor: &mut Cursor<'_>, depth: u32, level: u8) -> Resul
         }
         Token::Mark(Sign::Open) => {
             cursor.tokens = rest;
-            cursor.taken = *at;
             paren(alloc, cursor, depth, *at)
         }
         Token::Mark(Sign::OpenBrace) => {
             cursor.tokens = rest;
-            cursor.taken = *at;
             joined(alloc, cursor, depth, *at)
         }
         Token::Mark(Sign::Not) => {
@@ -232,7 +229,6 @@ fn start(alloc: Global, cursor: &mut Cursor<'_>, depth: u32, level: u8) -> Resul
                 return Err(Fault::Wrong);
             }
             cursor.tokens = rest;
-            cursor.taken = *at;
             negated(alloc, cursor, depth, *at)
         }
         _ => Err(Fault::Wrong),
@@ -385,14 +381,14 @@ fn goes_on(
         match peek(cursor.tokens) {
             Next::Operator(op, sign_at) if level <= level_of(op) => {
                 if left.depth > depth {
-                    return Err(Fault::Deep { at: sign_at });
+                    return Err(Fault::Deep);
                 }
                 cursor.advance();
                 left = operation(alloc, cursor, depth, op, sign_at, left)?;
             }
             Next::Question(at) if level == 0 => {
                 if left.depth > depth {
-                    return Err(Fault::Deep { at });
+                    return Err(Fault::Deep);
                 }
                 cursor.advance();
                 return choice(alloc, cursor, depth, left, at);
@@ -400,7 +396,7 @@ fn goes_on(
             _ => return Ok(left),
         }
     }
-    Err(Fault::Deep { at: cursor.place() })
+    Err(Fault::Deep)
 }
 
 /// The right operand of an operator, behind it.
@@ -440,7 +436,7 @@ pub fn parse(alloc: Global, cursor: &mut Cursor<'_>, depth: u32, level: u8) -> R
     ensures depth { HasDepth depth result }
 {
     if depth == 0 {
-        return Err(Fault::Deep { at: cursor.taken });
+        return Err(Fault::Deep);
     }
     let first = start(alloc, cursor, depth - 1, level)?;
     goes_on(alloc, cursor, depth - 1, level, first)

@@ -21,7 +21,8 @@ pub fn read_module(alloc: Global, bytes: &[u8]) -> Result<Tree, ReadRefusal>
     // A text with a tree gives that tree, unless memory runs out.
     ensures only { (tree : Tree) → length bytes.now ≤ 16777216 → Reads bytes.now tree → IsTree result tree }
     ensures long { (result ≡ Err (ReadRefusal.TooLong (length bytes.now))) ↔ (16777216 < length bytes.now) }
-    // A refusal at a place is at the first token with which nothing goes on, or at the first fault.
+    // A refusal at a place is at the first token with which nothing goes on or an expression is too deep, or at the first
+    // fault.
     ensures place { IfErr result (λ e. IsInPlace bytes.now e) }
     // No other length is told.
     ensures told { (len : ℕ) → result ≡ Err (ReadRefusal.TooLong len) → len ≡ length bytes.now }
@@ -67,18 +68,14 @@ fn read_tokens(
     ensures found { IfOk result (λ tree. SpellsModule tree (seen tokens.now)) }
     ensures only { (tree : Tree) → SpellsModule tree (seen tokens.now) → IsTree result tree }
     ensures short { IfErr result (λ e. IsShort e) }
-    ensures stops { IfErr result (λ e. (e ≡ ReadRefusal.NoMemory) ⊎ StopsAt (read (seen tokens.now)) end form e) }
+    ensures stops { IfErr result (λ e. (e ≡ ReadRefusal.NoMemory) ⊎ StopsAt (seen tokens.now) (read (seen tokens.now)) end form e) }
 {
-    let mut cursor = Cursor {
-        tokens,
-        end,
-        taken: end,
-    };
+    let mut cursor = Cursor { tokens };
     let tree = match module_of(alloc, &mut cursor, tokens.len()) {
         Ok(tree) => tree,
         Err(Fault::NoMemory) => return Err(ReadRefusal::NoMemory),
         Err(Fault::Wrong) => return Err(refusal(cursor.tokens, end, form)),
-        Err(Fault::Deep { at }) => return Err(too_deep(at, end, form)),
+        Err(Fault::Deep) => return Err(too_deep(tokens, cursor.tokens, end, form)),
     };
     if !cursor.tokens.is_empty() {
         return Err(refusal(cursor.tokens, end, form));

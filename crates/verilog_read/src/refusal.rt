@@ -1,13 +1,13 @@
-ghost use Rattle.std.specs.Prelude.{◌≡◌, ◌<◌, ◌∷◌, ℕ, List, length};
+ghost use Rattle.std.specs.Prelude.{◌≡◌, ◌<◌, ◌∷◌, ℕ, List, length, MatchOption, None, Some};
 ghost use Rattle.verilog_tree.specs.Lexemes.{Word};
 ghost use Rattle.verilog_read.specs.Forms.{form_of, form_at};
 ghost use Rattle.verilog_read.specs.Outcome.{IsPlaced};
-ghost use Rattle.verilog_read.specs.Places.{refusal_at, wrong_at};
-ghost use Rattle.verilog_read.specs.Seen.{seen, token_seen};
+ghost use Rattle.verilog_read.specs.Places.{before_last, deep_at, deep_behind, deep_next, opens, refusal_at, wrong_at};
+ghost use Rattle.verilog_read.specs.Seen.{placed_seen, seen, token_seen};
 
 use crate::cursor::is_unsupported;
 use crate::lexer::is_letter;
-use crate::token::{Placed, Token};
+use crate::token::{Placed, Sign, Token};
 use core_host::Name;
 use thiserror::Error;
 
@@ -64,19 +64,81 @@ pub fn refusal(tokens: &[Placed], end: u32, form: Option<UnsupportedForm>) -> Re
     }
 }
 
-/// The refusal of the token at this place, which makes an expression too deep. At the end of the
-/// tokens there is none.
-pub fn too_deep(at: u32, end: u32, form: Option<UnsupportedForm>) -> ReadRefusal
-    ensures { IsPlaced result }
+/// The refusal of an expression that is too deep, where these are left of the tokens.
+#[tactic(auto, using(crate::proofs::Deep::deep))]
+pub fn too_deep(
+    tokens: &[Placed],
+    left: &[Placed],
+    end: u32,
+    form: Option<UnsupportedForm>,
+) -> ReadRefusal
+    ensures same { result ≡ deep_at (seen tokens.now) (seen left.now) end form }
+    ensures placed { IsPlaced result }
 {
-    if at < end {
-        ReadRefusal::Unsupported {
-            at,
-            form: UnsupportedForm::Deep,
-        }
-    } else {
-        refusal_at(end, form)
+    match before_last(left.len(), tokens) {
+        Some(last) => deep_behind(last, left, end, form),
+        None => deep_next(left, end, form),
     }
+}
+
+/// Of some tokens the one before the last `n`.
+#[tactic(auto, using(crate::proofs::Deep::deep))]
+fn before_last(n: usize, tokens: &[Placed]) -> Option<&Placed>
+    ensures { MatchOption result (before_last n (seen tokens.now) ≡ None) (λ t. before_last n (seen tokens.now) ≡ Some (placed_seen t.now)) }
+{
+    let mut rest = tokens;
+    while let [first, more @ ..] = rest {
+        if more.len() == n {
+            return Some(first);
+        }
+        rest = more;
+    }
+    None
+}
+
+/// The refusal where an expression is too deep, by the token that was read last.
+fn deep_behind(
+    last: &Placed,
+    left: &[Placed],
+    end: u32,
+    form: Option<UnsupportedForm>,
+) -> ReadRefusal
+    ensures same { result ≡ deep_behind (Some (placed_seen last.now)) (seen left.now) end form }
+    ensures placed { IsPlaced result }
+{
+    if opens(&last.token) {
+        deep(last.at)
+    } else {
+        deep_next(left, end, form)
+    }
+}
+
+/// The refusal of the next token, by which an expression is too deep.
+fn deep_next(left: &[Placed], end: u32, form: Option<UnsupportedForm>) -> ReadRefusal
+    ensures same { result ≡ deep_next (seen left.now) end form }
+    ensures placed { IsPlaced result }
+{
+    match left {
+        [next, ..] => deep(next.at),
+        [] => refusal_at(end, form),
+    }
+}
+
+/// The refusal of the token at this place, by which an expression is too deep.
+fn deep(at: u32) -> ReadRefusal
+    ensures { result ≡ ReadRefusal.Unsupported at UnsupportedForm.Deep }
+{
+    ReadRefusal::Unsupported {
+        at,
+        form: UnsupportedForm::Deep,
+    }
+}
+
+/// Whether this is `(`, `{` or `~`, with which an expression is one deeper than what stands behind them.
+fn opens(token: &Token) -> bool
+    ensures { result ≡ opens (token_seen token.now) }
+{
+    matches!(token, Token::Mark(Sign::Open | Sign::OpenBrace | Sign::Not))
 }
 
 /// The refusal at a place, with the form of what stands there.

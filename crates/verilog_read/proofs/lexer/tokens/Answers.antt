@@ -1,8 +1,7 @@
-use Rattle.std.proofs.Common.{◌≤◌, ◌∙◌, sym, ap, arith, length, ◌-◌, ◌+◌, ◌≡◌, subst, List, refl}
+use Rattle.std.proofs.Common.{◌≤◌, ◌∙◌, sym, ap, arith, length, ◌-◌, ◌≡◌, subst, List, refl}
 use Rattle.std.proofs.lemmas.Bool.{eqb-true}
 use Rattle.verilog_tree.specs.Lexemes.{Placed}
 use Rattle.verilog_read.specs.Seen.{seen, token_seen}
-use Rattle.verilog_read.specs.Faults.{fault_of}
 use Rattle.verilog_read.specs.Tokens.{Extends}
 use Rattle.verilog_read.proofs.Values.{some_left}
 use Rattle.verilog_read.proofs.Tokens.{goes_on, ends_found, ends_only, stops_gap, stops_token, seen-push, gap_front, end_front, fault_front}

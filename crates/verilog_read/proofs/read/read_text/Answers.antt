@@ -2,8 +2,7 @@ use Rattle.std.proofs.Common.{◌∙◌, ap, subst}
 use Rattle.verilog_read.specs.Seen.{seen}
 use Rattle.verilog_read.proofs.Whole.{by_tokens}
 use Rattle.verilog_tree.specs.Module.{SpellsModule}
-use Rattle.verilog_read.specs.Places.{HasFront}
-use Rattle.verilog_read.proofs.Places.{by_stop, by_fault}
+use Rattle.verilog_read.proofs.Places.{by_fault}
 use Rattle.verilog_read.proofs.read.read_text.Goals as goal
 
 pub returns-clause-only : goal.returns-clause-only

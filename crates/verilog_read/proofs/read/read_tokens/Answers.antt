@@ -32,7 +32,7 @@ returns-in-Err-Wrong-clause-stops c =
 pub returns-in-Err-Deep-clause-stops : goal.returns-in-Err-Deep-clause-stops
 returns-in-Err-Deep-clause-stops c =
     let stop = rw c.in-Err-Deep.field-0-is at c.in-Err-Deep.ensures in
-    by_error c.args.tokens.now c.args.end c.args.form c.too_deep.result (Deep (seen c.module_of.new.cursor.tokens.now)) stop c.too_deep.ensures
+    by_error c.args.tokens.now c.args.end c.args.form c.too_deep.result (Deep (seen c.module_of.new.cursor.tokens.now)) stop c.too_deep.ensures.same
 
 pub returns-then-not-is_empty-clause-stops : goal.returns-then-not-is_empty-clause-stops
 returns-then-not-is_empty-clause-stops c = by_left c.args.tokens.now c.args.end c.args.form c.refusal-then-not-is_empty.result c.module_of.new.cursor.tokens.now c.in-Ok.tree c.in-Ok.ensures
