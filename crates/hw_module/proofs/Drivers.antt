@@ -14,6 +14,7 @@ use Rattle.hw_module.specs.declared.rows.ArrayWrite.{ArrayWrite}
 use Rattle.hw_module.specs.Ports.{port_at}
 use Rattle.hw_module.specs.Rows.{ModuleValue, wire_at, reg_at, array_at, out_at}
 use Rattle.hw_module.specs.Fits.{FitsIn}
+use Rattle.hw_module.proofs.Fill.{wire_fills, reg_fills, array_fills, drive_fills, next_fills, write_fills, output_fills}
 use Rattle.hw_module.specs.Frame.{Grows, WireStays, RegStays, ArrayStays}
 use Rattle.hw_module.specs.Checked.{DrivesWire, DrivesReg, DrivesArray, DrivesPort, DriversFit}
 use Rattle.hw_module.proofs.Fits.{grown_fits, added_fits}
@@ -112,11 +113,71 @@ array_put rows items k w row same lt is =
 -- ---- a module that has grown by a driver
 
 module _ (old new : ModuleValue) (room : new.room + 1 ≡ old.room) where
+  pub wire_grows : length new.wires ≡ length old.wires + 1 → (wire_at new.wires (length old.wires)).driver ≡ None → ((k : ℕ) → k < length old.wires → wire_at new.wires k ≡ wire_at old.wires k)
+      → new.regs ≡ old.regs → new.arrays ≡ old.arrays → new.outs ≡ old.outs → Grows old new 1
+  wire_grows count made before regs arrays outs = record {
+    room = omega arith;
+    fill = wire_fills old new count made before regs arrays outs;
+    more_wires = omega arith;
+    more_regs = let e : length new.regs ≡ length old.regs = ap length regs in omega arith;
+    more_arrays = let e : length new.arrays ≡ length old.arrays = ap length arrays in omega arith;
+    wires = λ k l. wire_same (before k l);
+    regs = λ k l. reg_same (ap (λ (rows : List RegRow). reg_at rows k) regs);
+    arrays = λ k l. array_same (ap (λ (rows : List ArrayRow). array_at rows k) arrays);
+    outs = λ k other h. ap (λ (o : List (Option Net)). out_at o k) outs ∙ h;
+  }
+
+  pub reg_grows : length new.regs ≡ length old.regs + 1 → (reg_at new.regs (length old.regs)).next ≡ None → ((k : ℕ) → k < length old.regs → reg_at new.regs k ≡ reg_at old.regs k)
+      → new.wires ≡ old.wires → new.arrays ≡ old.arrays → new.outs ≡ old.outs → Grows old new 1
+  reg_grows count made before wires arrays outs = record {
+    room = omega arith;
+    fill = reg_fills old new count made before wires arrays outs;
+    more_wires = let e : length new.wires ≡ length old.wires = ap length wires in omega arith;
+    more_regs = omega arith;
+    more_arrays = let e : length new.arrays ≡ length old.arrays = ap length arrays in omega arith;
+    wires = λ k l. wire_same (ap (λ (rows : List WireRow). wire_at rows k) wires);
+    regs = λ k l. reg_same (before k l);
+    arrays = λ k l. array_same (ap (λ (rows : List ArrayRow). array_at rows k) arrays);
+    outs = λ k other h. ap (λ (o : List (Option Net)). out_at o k) outs ∙ h;
+  }
+
+  pub array_grows : length new.arrays ≡ length old.arrays + 1 → (array_at new.arrays (length old.arrays)).write ≡ None → ((k : ℕ) → k < length old.arrays → array_at new.arrays k ≡ array_at old.arrays k)
+      → new.wires ≡ old.wires → new.regs ≡ old.regs → new.outs ≡ old.outs → Grows old new 1
+  array_grows count made before wires regs outs = record {
+    room = omega arith;
+    fill = array_fills old new count made before wires regs outs;
+    more_wires = let e : length new.wires ≡ length old.wires = ap length wires in omega arith;
+    more_regs = let e : length new.regs ≡ length old.regs = ap length regs in omega arith;
+    more_arrays = omega arith;
+    wires = λ k l. wire_same (ap (λ (rows : List WireRow). wire_at rows k) wires);
+    regs = λ k l. reg_same (ap (λ (rows : List RegRow). reg_at rows k) regs);
+    arrays = λ k l. array_same (before k l);
+    outs = λ k other h. ap (λ (o : List (Option Net)). out_at o k) outs ∙ h;
+  }
+
+  pub output_grows : (port : ℕ) (net : Net) → out_at old.outs port ≡ None → out_at new.outs port ≡ Some net → ((k : ℕ) → (k ≡ port → ⊥) → out_at new.outs k ≡ out_at old.outs k)
+      → length new.outs ≡ length old.outs → new.wires ≡ old.wires → new.regs ≡ old.regs → new.arrays ≡ old.arrays → Grows old new 1
+  output_grows port net free driven others count wires regs arrays = record {
+    room = omega arith;
+    fill = output_fills old new port net free driven others count wires regs arrays;
+    more_wires = let e : length new.wires ≡ length old.wires = ap length wires in omega arith;
+    more_regs = let e : length new.regs ≡ length old.regs = ap length regs in omega arith;
+    more_arrays = let e : length new.arrays ≡ length old.arrays = ap length arrays in omega arith;
+    wires = λ k l. wire_same (ap (λ (rows : List WireRow). wire_at rows k) wires);
+    regs = λ k l. reg_same (ap (λ (rows : List RegRow). reg_at rows k) regs);
+    arrays = λ k l. array_same (ap (λ (rows : List ArrayRow). array_at rows k) arrays);
+    outs = λ k other h. elim (cases_eq k port) [
+      | inl is ↦ let none : None ≡ Some other = sym free ∙ sym (ap (λ (j : ℕ). out_at old.outs j) is) ∙ h in absurd (grind arith)
+      | inr ne ↦ others k ne ∙ h
+    ];
+  }
+
   pub drive_grows : (wire : ℕ) (net : Net) → (wire_at old.wires wire).driver ≡ None → wire_at new.wires wire ≡ record (wire_at old.wires wire) { driver = Some net }
       → ((k : ℕ) → (k ≡ wire → ⊥) → wire_at new.wires k ≡ wire_at old.wires k)
       → length new.wires ≡ length old.wires → new.regs ≡ old.regs → new.arrays ≡ old.arrays → new.outs ≡ old.outs → Grows old new 1
   drive_grows wire net free driven others count regs arrays outs = record {
     room = omega arith;
+    fill = drive_fills old new wire net free driven others count regs arrays outs;
     more_wires = omega arith;
     more_regs = let e : length new.regs ≡ length old.regs = ap length regs in omega arith;
     more_arrays = let e : length new.arrays ≡ length old.arrays = ap length arrays in omega arith;
@@ -134,6 +195,7 @@ module _ (old new : ModuleValue) (room : new.room + 1 ≡ old.room) where
       → length new.regs ≡ length old.regs → new.wires ≡ old.wires → new.arrays ≡ old.arrays → new.outs ≡ old.outs → Grows old new 1
   next_grows reg net free driven others count wires arrays outs = record {
     room = omega arith;
+    fill = next_fills old new reg net free driven others count wires arrays outs;
     more_wires = let e : length new.wires ≡ length old.wires = ap length wires in omega arith;
     more_regs = omega arith;
     more_arrays = let e : length new.arrays ≡ length old.arrays = ap length arrays in omega arith;
@@ -151,6 +213,7 @@ module _ (old new : ModuleValue) (room : new.room + 1 ≡ old.room) where
       → length new.arrays ≡ length old.arrays → new.wires ≡ old.wires → new.regs ≡ old.regs → new.outs ≡ old.outs → Grows old new 1
   write_grows array w free driven others count wires regs outs = record {
     room = omega arith;
+    fill = write_fills old new array w free driven others count wires regs outs;
     more_wires = let e : length new.wires ≡ length old.wires = ap length wires in omega arith;
     more_regs = let e : length new.regs ≡ length old.regs = ap length regs in omega arith;
     more_arrays = omega arith;

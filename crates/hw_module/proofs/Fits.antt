@@ -76,6 +76,7 @@ leaf_fits m pool net t is tree fits = record {
 pub grows_same : (m : ModuleValue) → Grows m m 0
 grows_same m = record {
   room = omega arith;
+  fill = omega arith;
   more_wires = omega arith;
   more_regs = omega arith;
   more_arrays = omega arith;

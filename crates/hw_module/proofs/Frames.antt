@@ -33,6 +33,7 @@ array_then a b c first second = record {
 pub grows_then : (a b c : ModuleValue) (m n total : ℕ) → Grows a b m → Grows b c n → m + n ≤ total → Grows a c total
 grows_then a b c m n total first second sum = record {
   room = omega (arith, first.room, second.room);
+  fill = omega (arith, first.fill, second.fill);
   more_wires = omega (arith, first.more_wires, second.more_wires);
   more_regs = omega (arith, first.more_regs, second.more_regs);
   more_arrays = omega (arith, first.more_arrays, second.more_arrays);

@@ -5,3 +5,4 @@ pub mod Frames
 pub mod Makes
 pub mod Tables
 pub mod Ranges
+pub mod Fill

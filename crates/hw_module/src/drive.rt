@@ -14,7 +14,7 @@ use hw_pool::Pool;
 
 impl Module {
     /// Drives a forward wire that has no driver. The net's level is below the wire's. It takes no memory.
-    #[tactic(auto, using(crate::proofs::Makes::set_wire))]
+    #[tactic(auto, using(crate::proofs::Makes::set_wire, crate::proofs::Drivers::drive_grows))]
     pub fn drive(&mut self, pool: &Pool, wire: u32, net: Net)
         requires room { 1 ≤ self.old.room }
         requires there { wire < length self.old.wires }
@@ -39,7 +39,7 @@ impl Module {
     }
 
     /// Gives a register that has none its next value. It takes no memory.
-    #[tactic(auto, using(crate::proofs::Makes::set_reg))]
+    #[tactic(auto, using(crate::proofs::Makes::set_reg, crate::proofs::Drivers::next_grows))]
     pub fn next(&mut self, pool: &Pool, reg: u32, net: Net)
         requires room { 1 ≤ self.old.room }
         requires there { reg < length self.old.regs }
@@ -64,7 +64,7 @@ impl Module {
 
     /// Gives an array that has none its write: of `value` to the cell that `addr` names, where `enable` is 1. It
     /// takes no memory.
-    #[tactic(auto, using(crate::proofs::Makes::set_array))]
+    #[tactic(auto, using(crate::proofs::Makes::set_array, crate::proofs::Drivers::write_grows))]
     pub fn write(&mut self, pool: &Pool, array: u32, enable: Net, addr: Net, value: Net)
         requires room { 1 ≤ self.old.room }
         requires there { array < length self.old.arrays }
@@ -96,7 +96,7 @@ impl Module {
     }
 
     /// Drives an output port that has no driver. It takes no memory.
-    #[tactic(auto, using(crate::proofs::Makes::set_out))]
+    #[tactic(auto, using(crate::proofs::Makes::set_out, crate::proofs::Drivers::output_grows))]
     pub fn output(&mut self, pool: &Pool, port: u32, net: Net)
         requires room { 1 ≤ self.old.room }
         requires there { port < 30 }

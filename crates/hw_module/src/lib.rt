@@ -19,6 +19,3 @@ pub use law::{drivers_keep, makes_chain, scopes_fit};
 pub use module::Module;
 pub use ports::{PORTS, is_output, port_width};
 pub use rows::{ArrayRow, ArrayWrite, ModuleFault, Owner, RegRow, Thing, WireRow};
-
-#[cfg(test)]
-mod tests;

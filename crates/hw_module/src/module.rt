@@ -101,7 +101,7 @@ impl Module {
 
     /// Makes a forward wire of `width` bits whose driver is to have a level below `level`, and answers its number.
     /// It takes no memory.
-    #[tactic(auto, using(crate::proofs::Makes::made_wire))]
+    #[tactic(auto, using(crate::proofs::Makes::made_wire, crate::proofs::Drivers::wire_grows))]
     pub fn wire(&mut self, owner: Owner, width: u32, level: u32) -> u32
         requires room { 1 ≤ self.old.room }
         requires width { IsWidth width }
@@ -130,7 +130,7 @@ impl Module {
 
     /// Makes a register of `width` bits, which takes the value `reset` in a reset if there is one, and answers
     /// its number. It takes no memory.
-    #[tactic(auto, using(crate::proofs::Makes::made_reg))]
+    #[tactic(auto, using(crate::proofs::Makes::made_reg, crate::proofs::Drivers::reg_grows))]
     pub fn reg(&mut self, owner: Owner, width: u32, reset: Option<u64>) -> u32
         requires room { 1 ≤ self.old.room }
         requires width { IsWidth width }
@@ -159,7 +159,7 @@ impl Module {
     }
 
     /// Makes an array of 2 ^ `bits` cells of `width` bits, and answers its number. It takes no memory.
-    #[tactic(auto, using(crate::proofs::Makes::made_array))]
+    #[tactic(auto, using(crate::proofs::Makes::made_array, crate::proofs::Drivers::array_grows))]
     pub fn array(&mut self, owner: Owner, width: u32, bits: u32) -> u32
         requires room { 1 ≤ self.old.room }
         requires width { IsWidth width }

@@ -2,7 +2,6 @@
 #![tactic(auto)]
 
 mod commits;
-mod count;
 mod whole;
 
 pub use whole::join;

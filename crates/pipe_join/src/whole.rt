@@ -1,5 +1,6 @@
-ghost use Rattle.std.specs.Prelude.{◌≡◌, ℕ, ◌+◌, ◌<◌, ◌≤◌, ◌^◌, length, Err, IfOk, OnErr};
+ghost use Rattle.std.specs.Prelude.{◌≡◌, ℕ, ◌+◌, ◌<◌, ◌≤◌, ◌^◌, length, Err, IfOk, OnErr, OnOk};
 ghost use Rattle.hw_pool.specs.Nodes.{IsPool};
+ghost use Rattle.hw_pool.specs.Frame.{Adds};
 ghost use Rattle.hw_module.specs.Checked.{IsChecked};
 ghost use Rattle.hw_module.specs.Rows.{IsModule};
 ghost use Rattle.module_netlist.specs.Written.{thing_count};
@@ -9,7 +10,6 @@ ghost use Rattle.pipe_build.specs.Ready.{world_with};
 ghost use Rattle.pipe_join.specs.Pipelined.{IsPipelined};
 
 use crate::commits::commits_of;
-use crate::count::is_few;
 use hw_module::Module;
 use hw_pool::Pool;
 use pipe_build::build_pipe;
@@ -18,11 +18,11 @@ use plug_join::{JoinRefusal, Joined, build_boxes};
 use std::alloc::Global;
 
 /// Lets the boxes of a plan build, each by its two calls, and builds the pipeline of the plan between them: one module, of which
-/// each thing has its driver.
+/// each thing has its driver, with no more things, nodes and drivers than a text may have. Whatever the answer, the nodes that were
+/// live in the pool stay as they were; after a refusal they are all that is live.
 ///
 /// # Errors
-/// `Full` exactly where the live nodes and what is wanted are too many. `NoMemory` where memory was refused, or where more was
-/// made than can be written, which plug-ins that keep to their cost do not do.
+/// `Full` exactly where the live nodes and what is wanted are too many. `NoMemory` where memory was refused.
 pub fn join(
     alloc: Global,
     plan: &Plan,
@@ -32,8 +32,10 @@ pub fn join(
     requires plan { IsBuildable (λ x. spec_now x) plugs.now.items plan.now }
     requires few { length plan.now.order < 2 ^ 32 }
     requires wanted { (d : _) → (pipe_share plan.now) + rest_half (λ x. spec_now x) plugs.now.items plan.now d 0 + rest_half (λ x. spec_now x) plugs.now.items plan.now d 0 ≤ plan.now.wanted }
+    ensures refused { OnErr result (pool.new.nodes ≡ pool.old.nodes) }
     ensures full { (wanted limit : ℕ) → result ≡ Err (JoinRefusal.Full wanted limit) → (wanted ≡ length pool.old.nodes + plan.now.wanted) × (limit ≡ 65535) × (65535 < length pool.old.nodes + plan.now.wanted) }
     ensures within { length pool.old.nodes + plan.now.wanted ≤ 65535 → OnErr result (result ≡ Err JoinRefusal.NoMemory) }
+    ensures over { OnOk result ((n : ℕ) × Adds pool.old pool.new n) }
     ensures checked { IfOk result (λ m. IsChecked m pool.new) }
     ensures small { IfOk result (λ m. thing_count m pool.new ≤ 65535) }
     ensures ranges { IfOk result (λ m. IsModule m) }
@@ -52,9 +54,9 @@ pub fn join(
         Ok(Joined { module, registry }) => {
             let mut module = module;
             build_pipe(&mut module, pool, &registry, &commits, stages, reset_pc);
-            if !is_few(&module, pool) {
-                return Err(JoinRefusal::NoMemory);
-            }
+            // Calls of both types, for what holds of all their values (`nodes` and `ranges`).
+            let _ = pool.live();
+            let _ = module.outs().len();
             Ok(module)
         }
     }

@@ -3,3 +3,4 @@ pub mod Inputs
 pub mod Moves
 pub mod Offers
 pub mod Done
+pub mod Chain

@@ -4,3 +4,4 @@ pub mod Stays
 pub mod Moves
 pub mod Offers
 pub mod Done
+pub mod Chain

@@ -86,9 +86,9 @@ offer-of r entry System P singles execs is = of-single P entry (single r System)
 
 module _ {B : Type 0} (spec : B → PlugSpec) (boxes : List B) (plan : Plan) where
   -- when the last is done, each entry is
-  pub all_joined : (ok : IsBuildable spec boxes plan) (test test' : B → Plan → Part → Type 0) (first : PoolValue) (own count : ℕ) (w : World) → length plan.order ≤ count
-      → LateSoFar spec test test' boxes plan first own count w → IsJoined spec test' boxes plan w
-  all_joined ok test test' first own count w over h = record {
+  pub all_joined : (ok : IsBuildable spec boxes plan) (test test' : B → Plan → Part → Type 0) (first : PoolValue) (own base count : ℕ) (w : World) → length plan.order ≤ count
+      → LateSoFar spec test test' boxes plan first own base count w → IsJoined spec test' boxes plan w
+  all_joined ok test test' first own base count w over h = record {
     parts = λ d entry inside.
         let k = ok.all entry inside in
         subst (λ (e : ℕ). test' (box_of boxes plan d e) plan (part_in (takes_of (spec (box_of boxes plan d e))) e w)) k.1.1 (h.builds d k.0 (omega (arith, k.1.0)));
@@ -110,8 +110,8 @@ module _ {B : Type 0} (spec : B → PlugSpec) (boxes : List B) (plan : Plan) whe
   }
 
   -- and what is left is the pipeline's
-  pub all_left : (ok : IsBuildable spec boxes plan) (test test' : B → Plan → Part → Type 0) (first : PoolValue) (w : World) → LateSoFar spec test test' boxes plan first (pipe_share plan) (length plan.order) w → IsLeft plan w
-  all_left ok test test' first w h = record {
+  pub all_left : (ok : IsBuildable spec boxes plan) (test test' : B → Plan → Part → Type 0) (first : PoolValue) (base : ℕ) (w : World) → LateSoFar spec test test' boxes plan first (pipe_share plan) base (length plan.order) w → IsLeft plan w
+  all_left ok test test' first base w h = record {
     wires = λ k l none.
         let o = h.owners.wires k l in (
           o.0,
@@ -150,17 +150,26 @@ module _ {B : Type 0} (spec : B → PlugSpec) (boxes : List B) (plan : Plan) whe
     room =
         let j = ok.core Fetch refl in
         let had = h.room (box-at (entry_at plan j.0) (ok.inside j.0 j.1.0)) in
-        let few = few-offers w.reg.execs (length plan.picks) h.fits.offers.once (λ i d l. let k = h.offers.execs i d l in subst (λ n. n < length plan.picks) (sym k.1.1) (ok.inside k.0 k.1.0)) in
-        let size = ok.size in
-        record { room = omega (arith, had.room, few, size); spare = omega (arith, had.spare, few, size) };
+        record { room = omega (arith, had.room, units); spare = omega (arith, had.spare, units) };
+    units = units;
   }
     where
       box-at : (entry : ℕ) → entry < length plan.picks → B
       box-at entry l = element boxes (get_or plan.picks entry 0) (ok.picked entry l)
 
+      units : length w.reg.execs ≤ length plan.order
+      units =
+          let few = few-offers w.reg.execs (length plan.picks) h.fits.offers.once (λ i d l. let k = h.offers.execs i d l in subst (λ n. n < length plan.picks) (sym k.1.1) (ok.inside k.0 k.1.0)) in
+          let size = ok.size in
+          omega (arith, few, size)
+
       -- whoever offers something is an entry of the order
       who : (entry : ℕ) (s : Service) → offers w.reg entry s ≡ true → (k : ℕ) × ((k < length plan.order) × (entry ≡ entry_at plan k))
       who entry s is = offer-of w.reg entry s (λ e. (k : ℕ) × ((k < length plan.order) × (e ≡ entry_at plan k))) (λ t o q. h.offers.singles t o q) h.offers.execs is
+
+  -- some box, since some entry offers Fetch
+  pub some_box : IsBuildable spec boxes plan → B
+  some_box ok = let j = ok.core Fetch refl in element boxes (get_or plan.picks (entry_at plan j.0) 0) (ok.picked (entry_at plan j.0) (ok.inside j.0 j.1.0))
 
 -- what was joined stays so while another builds
 module _ {B : Type 0} (spec : B → PlugSpec) (boxes : List B) (plan : Plan) (by : Owner) (r : Rights) (most : ℕ) (old new : World) (fits : WorldFits old) (apart : (entry : ℕ) → by ≡ Entry entry → ⊥) (b : Builds by r most old new) (same : new.reg ≡ old.reg)

@@ -1,6 +1,8 @@
 -- Before the first box builds.
 use Rattle.std.proofs.Common.{◌≡◌, ℕ, zero, suc, ◌+◌, ◌≤◌, List, [], length, get_or, refl, arith, ap, sym, subst, Option, None}
-use Rattle.std.specs.Prelude.{false, replicate}
+use Rattle.std.specs.Prelude.{false, replicate, sum_by}
+use Rattle.std.proofs.lemmas.List.Sums.{sum_by-cons}
+use Rattle.hw_module.specs.Frame.{count_of}
 use Rattle.std.proofs.lemmas.Bool.{both_ways}
 use Rattle.hw_pool.specs.Nodes.{PoolValue}
 use Rattle.hw_pool.proofs.Frames.{adds_nothing}
@@ -55,6 +57,10 @@ none-at zero k = refl
 none-at (suc n) zero = refl
 none-at (suc n) (suc k) = none-at n k
 
+none-filled : (n : ℕ) → sum_by (count_of {A = Net}) (replicate n None) ≡ 0
+none-filled zero = refl
+none-filled (suc n) = let more = sum_by-cons (count_of {A = Net}) None (replicate n None) in let rest = none-filled n in omega (arith, more, rest)
+
 bare-module : ℕ → ModuleValue
 bare-module room = record { wires = []; regs = []; arrays = []; outs = replicate 30 None; room = room }
 
@@ -96,6 +102,7 @@ module _ {B : Type 0} (spec : B → PlugSpec) (boxes : List B) (plan : Plan) (te
       regs = λ k l. absurd (omega arith);
       arrays = λ k l. absurd (omega arith);
     };
+    spent = λ x. omega (arith, none-filled 30);
     nodes = 0;
     adds = adds_nothing pool pool refl (omega arith);
   }

@@ -34,7 +34,7 @@ use Rattle.plug_build.specs.Frame.PredictStays.{Stays, Comes}
 use Rattle.plug_build.proofs.Leaves.{entry_eq, early_leaves, late_leaves, nothing_kept, single_offers, disjoint_outs, by_self}
 use Rattle.plug_part.specs.Meets.{MeetsLaws}
 use Rattle.plug_api.specs.Calls.{OffersItsOwn, IsThere, AreThere, AreUnoffered, AreOutsOpen, IsPredictOpen, half_cost, takes_of, terms_of}
-use Rattle.plug_join.specs.Joined.{entry_at, box_of, rest_half, IsBuildable, AreOwned, AreOffersOf, EarlySoFar, LateSoFar}
+use Rattle.plug_join.specs.Joined.{entry_at, box_of, rest_half, size_of, IsBuildable, AreOwned, AreOffersOf, EarlySoFar, LateSoFar}
 
 not-offered : (r : RegistryValue) (e : ℕ) (s : Service) → single r s ≡ None → (s ≡ Exec → ⊥) → offers r e s ≡ false
 not-offered r e Fetch h ne = ap (λ (o : Option Offered). is_some (own_single e o)) h
@@ -265,13 +265,18 @@ module _ {B : Type 0} (spec : B → PlugSpec) (boxes : List B) (plan : Plan) whe
                 room = omega (arith, had.room, u.makes.grows.room, u.sum);
                 spare = omega (arith, had.spare, u.adds.spare, u.sum);
               };
+          spent = λ d.
+              let more = rest_more d count l in
+              let had = h.spent d in
+              let u = bd d in
+              omega (arith, more, had, u.makes.grows.fill, u.adds.most, u.sum);
           execs = let had = h.execs in omega arith;
           owners = owned_more plan count (count + 1) w.design w'.design (early_rights w'.reg (entry_at plan count)) b.things b.makes (omega arith) (owned_upto plan count (count + 1) w.design (omega arith) h.owners);
           nodes = h.nodes + b.nodes;
           adds = adds_then first w.pool w'.pool h.nodes b.nodes (h.nodes + b.nodes) h.adds b.adds (omega arith);
         }
 
-    module _ (test test' : B → Plan → Part → Type 0) (first : PoolValue) (own count : ℕ) (w : World) (l : count < length plan.order) (h : LateSoFar spec test test' boxes plan first own count w) where
+    module _ (test test' : B → Plan → Part → Type 0) (first : PoolValue) (own base count : ℕ) (w : World) (l : count < length plan.order) (h : LateSoFar spec test test' boxes plan first own base count w) where
       pub needs_here : (d : B) → AreThere (at d count) w.reg
       needs_here d s need = let j = ok.met d count s l need in there w.reg (entry_at plan j.0) s (h.offered d j.0 j.1.0 s ∙ j.1.1)
 
@@ -333,7 +338,7 @@ module _ {B : Type 0} (spec : B → PlugSpec) (boxes : List B) (plan : Plan) whe
               (k.0, (k.1.0, ap (λ (r : RegistryValue). is_out_of r (entry_at plan k.0) p) same ∙ k.1.1))
         ]
 
-        pub late_step : LateSoFar spec test test' boxes plan first own (count + 1) w'
+        pub late_step : LateSoFar spec test test' boxes plan first own base (count + 1) w'
         late_step = record {
           fits = fits;
           begun = λ d k le lt. subst (test (box_of boxes plan d (entry_at plan k)) plan) (sym (part-late d k (λ q. entries-apart count k (omega arith) lt (sym q)))) (h.begun d k (omega arith) lt);
@@ -363,12 +368,17 @@ module _ {B : Type 0} (spec : B → PlugSpec) (boxes : List B) (plan : Plan) whe
                 room = omega (arith, had.room, u.makes.grows.room, u.sum);
                 spare = omega (arith, had.spare, u.adds.spare, u.sum);
               };
+          spent = λ d.
+              let more = rest_more d count l in
+              let had = h.spent d in
+              let u = bd d in
+              omega (arith, more, had, u.makes.grows.fill, u.adds.most, u.sum);
           nodes = h.nodes + b.nodes;
           adds = adds_then first w.pool w'.pool h.nodes b.nodes (h.nodes + b.nodes) h.adds b.adds (omega arith);
         }
 
   -- once all have begun, the second phase begins
-  pub late_first : (test test' : B → Plan → Part → Type 0) (first : PoolValue) (own : ℕ) (w : World) → EarlySoFar spec test boxes plan first own (length plan.order) w → LateSoFar spec test test' boxes plan w.pool own 0 w
+  pub late_first : (test test' : B → Plan → Part → Type 0) (first : PoolValue) (own : ℕ) (w : World) → EarlySoFar spec test boxes plan first own (length plan.order) w → LateSoFar spec test test' boxes plan w.pool own (size_of w) 0 w
   late_first test test' first own w h = record {
     fits = h.fits;
     begun = λ d k le lt. h.begun d k lt;
@@ -382,6 +392,7 @@ module _ {B : Type 0} (spec : B → PlugSpec) (boxes : List B) (plan : Plan) whe
     outs = h.outs;
     predict = λ d k le lt off j is. go j (single w.reg Predict) refl is;
     room = λ d. let had = h.room d in record { room = omega (arith, had.room); spare = omega (arith, had.spare) };
+    spent = λ d. omega arith;
     nodes = 0;
     adds = adds_nothing w.pool w.pool refl (omega arith);
   }

@@ -2,6 +2,7 @@
 use Rattle.std.specs.Prelude.{◌≡◌, ℕ, ◌+◌, ◌*◌, ◌<◌, ◌≤◌, Bool, true, false, List, length, get_or, sum_by, drop, All, None, Some}
 use Rattle.hw_pool.specs.Nodes.{PoolValue}
 use Rattle.hw_pool.specs.Frame.{Adds}
+use Rattle.hw_module.specs.Frame.{fill_of}
 use Rattle.hw_expr.specs.declared.net.Net.{Net}
 use Rattle.hw_module.specs.declared.rows.Owner.TheVariants.{Entry}
 use Rattle.hw_module.specs.Rows.{ModuleValue, wire_at, reg_at, array_at, out_at}
@@ -70,6 +71,10 @@ pub record HasRoom (cost : ℕ) (w : World) : Type 0 where
   pub room : cost ≤ w.design.room
   pub spare : cost ≤ w.pool.spare
 
+-- how many nodes, things and drivers there are
+abbrev pub size_of : World → ℕ
+size_of w = length w.pool.nodes + fill_of w.design
+
 -- each thing is of one of the first entries of the order
 pub record AreOwned (plan : Plan) (count : ℕ) (d : ModuleValue) : Type 0 where
   pub wires : (k : ℕ) → k < length d.wires → (i : ℕ) × ((i < count) × ((wire_at d.wires k).owner ≡ Entry (entry_at plan i)))
@@ -91,13 +96,14 @@ pub record EarlySoFar {B : Type 0} (spec : B → PlugSpec) (test : B → Plan �
   pub offers : AreOffersOf plan count w.reg
   pub outs : (p : ℕ) (net : Net) → out_at w.design.outs p ≡ Some net → (k : ℕ) × ((k < count) × (is_out_of w.reg (entry_at plan k) p ≡ true))
   pub room : (d : B) → HasRoom (own + rest_half spec boxes plan d 0 + rest_half spec boxes plan d count) w
+  pub spent : (d : B) → size_of w + rest_half spec boxes plan d count ≤ length first.nodes + rest_half spec boxes plan d 0
   pub execs : length plan.order ≤ w.reg.room + count
   pub owners : AreOwned plan count w.design
   pub nodes : ℕ
   pub adds : Adds first w.pool nodes
 
--- after the first boxes of the order are done
-pub record LateSoFar {B : Type 0} (spec : B → PlugSpec) (test test' : B → Plan → Part → Type 0) (boxes : List B) (plan : Plan) (first : PoolValue) (own count : ℕ) (w : World) : Type 0 where
+-- after the first boxes of the order are done; as they began there were `base` nodes, things and drivers
+pub record LateSoFar {B : Type 0} (spec : B → PlugSpec) (test test' : B → Plan → Part → Type 0) (boxes : List B) (plan : Plan) (first : PoolValue) (own base count : ℕ) (w : World) : Type 0 where
   pub fits : WorldFits w
   pub begun : (d : B) (k : ℕ) → count ≤ k → k < length plan.order → test (box_of boxes plan d (entry_at plan k)) plan (part_in (takes_of (spec (box_of boxes plan d (entry_at plan k)))) (entry_at plan k) w)
   pub offered : (d : B) (k : ℕ) → k < length plan.order → OffersItsOwn (spec (box_of boxes plan d (entry_at plan k))) (entry_at plan k) w.reg
@@ -111,6 +117,7 @@ pub record LateSoFar {B : Type 0} (spec : B → PlugSpec) (test test' : B → Pl
   pub outs : (p : ℕ) (net : Net) → out_at w.design.outs p ≡ Some net → (k : ℕ) × ((k < length plan.order) × (is_out_of w.reg (entry_at plan k) p ≡ true))
   pub predict : (d : B) (k : ℕ) → count ≤ k → k < length plan.order → IsPredictOpen (spec (box_of boxes plan d (entry_at plan k))) w.reg w.design
   pub room : (d : B) → HasRoom (own + rest_half spec boxes plan d count) w
+  pub spent : (d : B) → size_of w + rest_half spec boxes plan d count ≤ base + rest_half spec boxes plan d 0
   pub nodes : ℕ
   pub adds : Adds first w.pool nodes
 
@@ -140,6 +147,7 @@ pub record IsLeft (plan : Plan) (w : World) : Type 0 where
   -- the services that every core needs are offered, and Exec by entries of these numbers
   pub there : (s : Service) → is_core s ≡ true → IsThere w.reg s
   pub few : All (λ (o : ExecOffer). o.by < 32) w.reg.execs
+  pub units : length w.reg.execs ≤ length plan.order
   -- and there is room for the pipeline, by how many entries offer Exec
   pub room : HasRoom (8192 + 256 * length w.reg.execs) w
 

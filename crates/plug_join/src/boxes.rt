@@ -1,8 +1,9 @@
-ghost use Rattle.std.specs.Prelude.{◌≡◌, ℕ, ◌+◌, ◌<◌, ◌≤◌, ◌^◌, [], length, replicate, Err, IfOk, None, OnErr};
+ghost use Rattle.std.specs.Prelude.{◌≡◌, ℕ, ◌+◌, ◌<◌, ◌≤◌, ◌^◌, [], length, replicate, Err, IfOk, None, OnErr, OnOk};
 ghost use Rattle.hw_pool.specs.Nodes.{PoolValue};
+ghost use Rattle.hw_pool.specs.Frame.{Adds};
 ghost use Rattle.hw_module.specs.Checked.{DriversFit};
 ghost use Rattle.plug_build.specs.Fits.{WorldFits};
-ghost use Rattle.plug_join.specs.Joined.{IsBuildable, IsJoined, IsLeft, joined_world, rest_half, pipe_share};
+ghost use Rattle.plug_join.specs.Joined.{IsBuildable, IsJoined, IsLeft, joined_world, rest_half, pipe_share, size_of};
 
 use crate::early::early_all;
 use crate::late::late_all;
@@ -27,7 +28,7 @@ pub struct Joined {
     pub registry: Registry,
 }
 
-/// Lets the boxes of a plan build, each by its two calls.
+/// Lets the boxes of a plan build, each by its two calls. The live nodes of the pool stay as they were.
 ///
 /// # Errors
 /// `Full` exactly where the live nodes and what is wanted are too many. `NoMemory` where memory was refused.
@@ -41,8 +42,11 @@ pub fn build_boxes(
     requires few { length plan.now.order < 2 ^ 32 }
     requires wanted { (d : _) → (pipe_share plan.now) + rest_half (λ x. spec_now x) plugs.now.items plan.now d 0 + rest_half (λ x. spec_now x) plugs.now.items plan.now d 0 ≤ plan.now.wanted }
     ensures refused { OnErr result (pool.new.nodes ≡ pool.old.nodes) }
+    ensures over { OnOk result ((n : ℕ) × Adds pool.old pool.new n) }
     ensures full { (wanted limit : ℕ) → result ≡ Err (JoinRefusal.Full wanted limit) → (wanted ≡ length pool.old.nodes + plan.now.wanted) × (limit ≡ 65535) × (65535 < length pool.old.nodes + plan.now.wanted) }
     ensures within { length pool.old.nodes + plan.now.wanted ≤ 65535 → OnErr result (result ≡ Err JoinRefusal.NoMemory) }
+    ensures small { IfOk result (λ j. length pool.old.nodes + plan.now.wanted ≤ 65535) }
+    ensures spent { IfOk result (λ j. size_of (joined_world pool.new j) + pipe_share plan.now ≤ length pool.old.nodes + plan.now.wanted) }
     ensures fits { IfOk result (λ j. WorldFits (joined_world pool.new j)) }
     ensures left { IfOk result (λ j. IsLeft plan.now (joined_world pool.new j)) }
     ensures joined { IfOk result (λ j. IsJoined (λ x. spec_now x) (λ x plan part. builds x plan part) plugs.now.items plan.now (joined_world pool.new j)) }

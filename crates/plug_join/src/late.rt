@@ -8,7 +8,7 @@ ghost use Rattle.plug_build.specs.Done.{AreOpen, IsDone, OwnsNothing};
 ghost use Rattle.plug_part.specs.Part.{Part};
 ghost use Rattle.plug_part.specs.Meets.{MeetsLaws};
 ghost use Rattle.plug_api.specs.Calls.{AreOutsOpen, AreThere, AreUnoffered, IsLawful, IsPredictOpen, OffersItsOwn, half_cost, takes_of, terms_of};
-ghost use Rattle.plug_join.specs.Joined.{EarlySoFar, IsBuildable, IsJoined, IsLeft, LateSoFar, box_of, pipe_share};
+ghost use Rattle.plug_join.specs.Joined.{EarlySoFar, IsBuildable, IsJoined, IsLeft, LateSoFar, box_of, pipe_share, size_of};
 
 use hw_pool::Pool;
 use plug_api::{Plan, Plugin};
@@ -76,7 +76,7 @@ pub(crate) fn late_all(
 )
     requires plan { IsBuildable (λ x. spec_now x) plugs.now.items plan.now }
     requires begun { (first : PoolValue) × EarlySoFar (λ x. spec_now x) (λ x plan part. begun x plan part) plugs.now.items plan.now first (pipe_share plan.now) (length plan.now.order) (world_of pool.old b.old reg.now) }
-    ensures done { LateSoFar (λ x. spec_now x) (λ x plan part. begun x plan part) (λ x plan part. builds x plan part) plugs.now.items plan.now pool.old (pipe_share plan.now) (length plan.now.order) (world_of pool.new b.new reg.now) }
+    ensures done { LateSoFar (λ x. spec_now x) (λ x plan part. begun x plan part) (λ x plan part. builds x plan part) plugs.now.items plan.now pool.old (pipe_share plan.now) (size_of (world_of pool.old b.old reg.now)) (length plan.now.order) (world_of pool.new b.new reg.now) }
     ensures left { IsLeft plan.now (world_of pool.new b.new reg.now) }
     ensures joined { IsJoined (λ x. spec_now x) (λ x plan part. builds x plan part) plugs.now.items plan.now (world_of pool.new b.new reg.now) }
 {
