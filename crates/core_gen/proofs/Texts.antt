@@ -17,7 +17,7 @@ use Rattle.plug_api.specs.declared.spec.Plan.{Plan}
 use Rattle.plug_api.specs.declared.spec.PlugSpec.{PlugSpec}
 use Rattle.plug_api.specs.Spec.{is_commit, no_spec}
 use Rattle.plug_api.specs.Accept.{IsAccepted, IsLeftShort, MayBe}
-use Rattle.plug_api.specs.Picks.{AreConfigured}
+use Rattle.plug_api.specs.Picks.{AreConfigured, AreShaped}
 use Rattle.part_laws.specs.Joined.{CoreTerms, Services, shape_in}
 use Rattle.part_laws.specs.Pipes.{PipeOwn, pipe_of}
 use Rattle.pipe_steps.specs.Numbers.{own_from, things_from}
@@ -119,16 +119,18 @@ module _ {B : Type 0} (kind : B → List ℕ) (taken : B → Option PlugEntry) (
         };
       }
 
-  pub generated : (text : List ℕ) → IsModuleText w.design w.pool.nodes text → IsGenerated kind taken now fault spec test old new cfg text
-  generated text m = record { plan = plan; accepted = is; configured = configured; core = box_text text m }
+  pub generated : (test_for : B → PlugEntry → Plan → Part → Type 0) → AreShaped test test_for old new plan.picks cfg.entries (length cfg.entries)
+      → (text : List ℕ) → IsModuleText w.design w.pool.nodes text → IsGenerated kind taken now fault spec test test_for old new cfg text
+  generated test_for shaped text m = record { plan = plan; accepted = is; configured = configured; shaped = shaped; core = box_text text m }
 
 -- the text of a module of boxes and pipeline, by an accepted plan
 pub from_plan : {B : Type 0} (kind : B → List ℕ) (taken : B → Option PlugEntry) (now : B → PlugSpec) (fault : B → PlugEntry → Option ParamFault) (spec : B → PlugEntry → PlugSpec)
-    (test : B → Plan → Part → Type 0) (old new : List B) (cfg : Config) (plan : Plan) → MayBe cfg → IsAccepted kind fault spec old cfg plan
-    → AreConfigured kind taken now fault spec old new plan.picks cfg.entries (length cfg.entries) → plan.shape.reset_pc < 2 ^ 32
-    → (text : List ℕ) → IsPlanText now test new plan text → IsGenerated kind taken now fault spec test old new cfg text
-from_plan kind taken now fault spec test old new cfg plan may is configured addressed text t =
-    generated kind taken now fault spec test old new cfg plan t.world may is configured t.piped t.is_pool t.is_module addressed text t.is_text
+    (test : B → Plan → Part → Type 0) (test_for : B → PlugEntry → Plan → Part → Type 0) (old new : List B) (cfg : Config) (plan : Plan) → MayBe cfg → IsAccepted kind fault spec old cfg plan
+    → AreConfigured kind taken now fault spec old new plan.picks cfg.entries (length cfg.entries) → AreShaped test test_for old new plan.picks cfg.entries (length cfg.entries)
+    → plan.shape.reset_pc < 2 ^ 32
+    → (text : List ℕ) → IsPlanText now test new plan text → IsGenerated kind taken now fault spec test test_for old new cfg text
+from_plan kind taken now fault spec test test_for old new cfg plan may is configured shaped addressed text t =
+    generated kind taken now fault spec test old new cfg plan t.world may is configured t.piped t.is_pool t.is_module addressed test_for shaped text t.is_text
 
 -- where memory was refused behind the acceptance, all boxes took their entries
 pub left_short : {B : Type 0} (kind : B → List ℕ) (taken : B → Option PlugEntry) (now : B → PlugSpec) (fault : B → PlugEntry → Option ParamFault) (spec : B → PlugEntry → PlugSpec)

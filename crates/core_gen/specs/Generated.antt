@@ -11,7 +11,7 @@ use Rattle.plug_api.specs.declared.spec.ParamFault.{ParamFault}
 use Rattle.plug_api.specs.declared.spec.Plan.{Plan}
 use Rattle.plug_api.specs.declared.spec.PlugSpec.{PlugSpec}
 use Rattle.plug_api.specs.Accept.{IsAccepted}
-use Rattle.plug_api.specs.Picks.{AreConfigured}
+use Rattle.plug_api.specs.Picks.{AreConfigured, AreShaped}
 use Rattle.part_laws.specs.Follow.{Chosen}
 use Rattle.pipe_steps.specs.Numbers.{own_from}
 use Rattle.pipe_join.specs.Pipelined.{IsPipelined}
@@ -41,10 +41,12 @@ pub record IsBoxText {B : Type 0} (now : B → PlugSpec) (test : B → Plan → 
       (core_claim (terms_by specs plan world.reg) (part_by specs world) (services_by specs world) (own_from piped.register world.reg.execs (piped.shape.stages - 2)) chosen)
       (λ tree. Means world.design world.pool.nodes (plain_tree tree)) text
 
--- all rules hold of the configuration, the boxes took its entries, and the text is what they built
+-- all rules hold of the configuration, the boxes took its entries, the tests of their parts are those of these entries, and the text is what
+-- they built
 pub record IsGenerated {B : Type 0} (kind : B → List ℕ) (taken : B → Option PlugEntry) (now : B → PlugSpec) (fault : B → PlugEntry → Option ParamFault) (spec : B → PlugEntry → PlugSpec)
-    (test : B → Plan → Part → Type 0) (old new : List B) (cfg : Config) (text : List ℕ) : Type 0 where
+    (test : B → Plan → Part → Type 0) (test_for : B → PlugEntry → Plan → Part → Type 0) (old new : List B) (cfg : Config) (text : List ℕ) : Type 0 where
   pub plan : Plan
   pub accepted : IsAccepted kind fault spec old cfg plan
   pub configured : AreConfigured kind taken now fault spec old new plan.picks cfg.entries (length cfg.entries)
+  pub shaped : AreShaped test test_for old new plan.picks cfg.entries (length cfg.entries)
   pub core : IsBoxText now test new plan accepted.specs text

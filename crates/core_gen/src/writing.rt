@@ -70,10 +70,10 @@ pub fn generate<H: Host>(
     requires config { MayBe cfg.now }
     requires few { length plugs.old.items < 2 ^ 32 }
     ensures done { OnOk result ((text : List ℕ)
-        × IsGenerated (λ b. kind b) (λ b. taken b) (λ b. spec_now b) (λ b e. first_fault b e) (λ b e. spec_taken b e) (λ b plan part. builds b plan part) plugs.old.items plugs.new.items cfg.now text
+        × IsGenerated (λ b. kind b) (λ b. taken b) (λ b. spec_now b) (λ b e. first_fault b e) (λ b e. spec_taken b e) (λ b plan part. builds b plan part) (λ b e plan part. builds_for b e plan part) plugs.old.items plugs.new.items cfg.now text
         × Appends (H.pushed host.old Main) text (H.pushed host.new Main)) }
     ensures cut { (result ≡ Err GenRefusal.WriteFault) → (text : List ℕ)
-        × IsGenerated (λ b. kind b) (λ b. taken b) (λ b. spec_now b) (λ b e. first_fault b e) (λ b e. spec_taken b e) (λ b plan part. builds b plan part) plugs.old.items plugs.new.items cfg.now text
+        × IsGenerated (λ b. kind b) (λ b. taken b) (λ b. spec_now b) (λ b e. first_fault b e) (λ b e. spec_taken b e) (λ b plan part. builds b plan part) (λ b e plan part. builds_for b e plan part) plugs.old.items plugs.new.items cfg.now text
         × IsCut (H.pushed host.old Main) text (H.pushed host.new Main) }
     ensures cause { (result ≡ Err GenRefusal.WriteFault) → Rose (H.write_faults host.old) (H.write_faults host.new) }
     ensures refused { (r : RuleRefusal) → result ≡ Err (GenRefusal.Rules r) → IsFirstRefusal (λ b. kind b) (λ b e. first_fault b e) (λ b e. spec_taken b e) plugs.old.items cfg.now r

@@ -1,10 +1,12 @@
 -- One more box is configured.
-use Rattle.std.proofs.Common.{◌≡◌, ℕ, ◌+◌, ◌<◌, List, length, get_or, arith, ap, sym, ◌∙◌, inl, inr, Option, None, Some}
+use Rattle.std.proofs.Common.{◌≡◌, ◌↔◌, ℕ, ◌+◌, ◌<◌, List, length, get_or, arith, ap, sym, ◌∙◌, inl, inr, Option, None, Some}
 use Rattle.std.proofs.lemmas.Bool.{cases_eq, cases_lt}
 use Rattle.stage_map.specs.declared.config.PlugEntry.{PlugEntry}
+use Rattle.plug_part.specs.Part.{Part}
+use Rattle.plug_api.specs.declared.spec.Plan.{Plan}
 use Rattle.plug_api.specs.declared.spec.PlugSpec.{PlugSpec}
 use Rattle.plug_api.specs.declared.spec.ParamFault.{ParamFault}
-use Rattle.plug_api.specs.Picks.{no_entry, ArePicks, AreDistinct, SameKinds, AreConfigured, ChangedAt}
+use Rattle.plug_api.specs.Picks.{no_entry, ArePicks, AreDistinct, SameKinds, AreConfigured, AreShaped, ChangedAt}
 use Rattle.plug_api.specs.SoFar.{ConfiguredSoFar}
 
 -- two entries have two boxes, since they name two kinds
@@ -83,4 +85,29 @@ module _ {B : Type 0} (kind : B → List ℕ) (taken : B → Option PlugEntry) (
       | inl e ↦ rw e (spec_kept d) ∙ before.configured.now_kept d k l none
       | inr ne ↦ ap now (changed.others d k ne) ∙ before.configured.now_kept d k l none
     ];
+  }
+
+-- One more box takes an entry, and a test of its parts is the one for this entry.
+module _ {B : Type 0} (test : B → Plan → Part → Type 0) (test_for : B → PlugEntry → Plan → Part → Type 0) where
+  iff_via : {P Q R : Type 0} → P ↔ Q → Q ↔ R → P ↔ R
+  iff_via f g = (λ x. g.0 (f.0 x), λ x. f.1 (g.1 x))
+
+  pub shape_step : (old mid new : List B) (picks : List ℕ) (entries : List PlugEntry) (count at : ℕ)
+      → at ≡ get_or picks count 0 → ((d : B) (i : ℕ) → i < count → get_or picks i 0 ≡ at → ⊥)
+      → ((d : B) → get_or mid at d ≡ get_or old at d)
+      → ((d : B) (k : ℕ) → (k ≡ at → ⊥) → get_or new k d ≡ get_or mid k d)
+      → AreShaped test test_for old mid picks entries count
+      → ((d : B) (e : PlugEntry) (plan : Plan) (p : Part) → test_for (get_or new at d) e plan p ↔ test_for (get_or mid at d) e plan p)
+      → ((d : B) (plan : Plan) (p : Part) → test (get_or new at d) plan p ↔ test_for (get_or mid at d) (get_or entries count no_entry) plan p)
+      → AreShaped test test_for old new picks entries (count + 1)
+  shape_step old mid new picks entries count at is apart was others before same_fors now = record {
+    fors = λ d k h e plan p. elim (cases_eq k at) [
+      | inl same ↦ rw same (iff_via (same_fors d e plan p) (rw same at (before.fors d k h e plan p)))
+      | inr other ↦ rw (others d k other) (before.fors d k h e plan p)
+    ];
+    taken = λ d i l plan p. elim (cases_lt i count) [
+      | inl earlier ↦ rw (others d (get_or picks i 0) (apart d i earlier)) (before.taken d i earlier plan p)
+      | inr here ↦ let e : i ≡ count = omega arith in rw (e, ← is, ← was d) (now d plan p)
+    ];
+    kept = λ d k h none plan p. rw (others d k (λ e. none count (omega arith) (sym is ∙ sym e))) (before.kept d k h (λ i m. none i (omega arith)) plan p);
   }

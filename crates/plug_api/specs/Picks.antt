@@ -1,6 +1,8 @@
 -- The boxes that entries name: rules 1 to 3, and what the boxes took. Boxes are seen by what can be told of them.
-use Rattle.std.specs.Prelude.{◌≡◌, ℕ, ◌<◌, [], List, length, get_or, Option, None, Some}
+use Rattle.std.specs.Prelude.{◌≡◌, ◌↔◌, ℕ, ◌<◌, [], List, length, get_or, Option, None, Some}
 use Rattle.stage_map.specs.declared.config.PlugEntry.{PlugEntry}
+use Rattle.plug_part.specs.Part.{Part}
+use Rattle.plug_api.specs.declared.spec.Plan.{Plan}
 use Rattle.plug_api.specs.declared.spec.PlugSpec.{PlugSpec}
 use Rattle.plug_api.specs.declared.spec.ParamFault.{ParamFault}
 use Rattle.plug_api.specs.declared.spec.ParamFault.TheVariants.{NoMemory}
@@ -80,3 +82,10 @@ pub record ChangedAt {B : Type 0} (kind : B → List ℕ) (fault : B → PlugEnt
   pub kind_kept : (d : B) → kind (get_or new at d) ≡ kind (get_or old at d)
   pub fault_kept : (d : B) (e : PlugEntry) → fault (get_or new at d) e ≡ fault (get_or old at d) e
   pub spec_kept : (d : B) (e : PlugEntry) → spec (get_or new at d) e ≡ spec (get_or old at d) e
+
+-- A test of parts once the first entries are taken: that of each of their boxes is the test for its entry, that of every other box is as it
+-- was, and the tests for entries never change.
+pub record AreShaped {B : Type 0} (test : B → Plan → Part → Type 0) (test_for : B → PlugEntry → Plan → Part → Type 0) (old new : List B) (picks : List ℕ) (entries : List PlugEntry) (count : ℕ) : Type 0 where
+  pub fors : (d : B) (k : ℕ) → k < length old → (e : PlugEntry) (plan : Plan) (p : Part) → test_for (get_or new k d) e plan p ↔ test_for (get_or old k d) e plan p
+  pub taken : (d : B) (i : ℕ) → i < count → (plan : Plan) (p : Part) → test (get_or new (get_or picks i 0) d) plan p ↔ test_for (get_or old (get_or picks i 0) d) (get_or entries i no_entry) plan p
+  pub kept : (d : B) (k : ℕ) → k < length old → ((i : ℕ) → i < count → get_or picks i 0 ≡ k → ⊥) → (plan : Plan) (p : Part) → test (get_or new k d) plan p ↔ test (get_or old k d) plan p

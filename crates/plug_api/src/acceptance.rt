@@ -1,6 +1,6 @@
 ghost use Rattle.std.specs.Prelude.{◌≡◌, ℕ, List, ◌⊎◌, ◌<◌, ◌≤◌, ◌^◌, length, get_or, Err, IfOk, IfErr};
 ghost use Rattle.plug_api.specs.Accept.{AreTaken, AreNamed, SpecsHold, IsFirstOfSpecs, IsChecked, rows_of, owners_of, IsPlanOf, MayBe, IsAccepted, IsFirstRefusal, IsRepeated, IsLeft, IsLeftShort};
-ghost use Rattle.plug_api.specs.Picks.{AreConfigured, AreFaultless, ArePicks, IsFirstFault, IsFirstUnknown, SameKinds, no_entry};
+ghost use Rattle.plug_api.specs.Picks.{AreConfigured, AreFaultless, ArePicks, AreShaped, IsFirstFault, IsFirstUnknown, SameKinds, no_entry};
 ghost use Rattle.plug_api.specs.SoFar.{AreSaid};
 ghost use Rattle.plug_api.specs.Spec.{IsSpec, no_spec};
 ghost use Rattle.plug_api.specs.declared.spec.PlugSpec.{PlugSpec};
@@ -172,6 +172,8 @@ fn take_all(
     ensures taken { IfOk result (λ s. AreTaken (λ b e. spec_taken b e) plugs.old.items picks.now.items entries.now.items s.items) }
     ensures configured { IfOk result (λ s. AreConfigured (λ b. kind b) (λ b. taken b) (λ b. spec_now b) (λ b e. first_fault b e) (λ b e. spec_taken b e)
         plugs.old.items plugs.new.items picks.now.items entries.now.items (length entries.now.items)) }
+    ensures begun { IfOk result (λ s. AreShaped (λ b plan p. begun b plan p) (λ b e plan p. begun_for b e plan p) plugs.old.items plugs.new.items picks.now.items entries.now.items (length entries.now.items)) }
+    ensures builds { IfOk result (λ s. AreShaped (λ b plan p. builds b plan p) (λ b e plan p. builds_for b e plan p) plugs.old.items plugs.new.items picks.now.items entries.now.items (length entries.now.items)) }
     ensures refused { IfErr result (λ r. (r ≡ RuleRefusal.NoMemory → ⊥)
         → (entry : ℕ) × (fault : _) × (r ≡ RuleRefusal.BadParam entry fault) × IsFirstFault (λ b e. first_fault b e) plugs.old.items picks.now.items entries.now.items entry fault
         × AreConfigured (λ b. kind b) (λ b. taken b) (λ b. spec_now b) (λ b e. first_fault b e) (λ b e. spec_taken b e)
@@ -213,6 +215,8 @@ pub fn accept(
         → IsFirstRefusal (λ b. kind b) (λ b e. first_fault b e) (λ b e. spec_taken b e) plugs.old.items cfg.now r }
     ensures took { IfOk result (λ plan. AreConfigured (λ b. kind b) (λ b. taken b) (λ b. spec_now b) (λ b e. first_fault b e) (λ b e. spec_taken b e)
         plugs.old.items plugs.new.items plan.picks cfg.now.entries (length cfg.now.entries)) }
+    ensures begun { IfOk result (λ plan. AreShaped (λ b plan p. begun b plan p) (λ b e plan p. begun_for b e plan p) plugs.old.items plugs.new.items plan.picks cfg.now.entries (length cfg.now.entries)) }
+    ensures builds { IfOk result (λ plan. AreShaped (λ b plan p. builds b plan p) (λ b e plan p. builds_for b e plan p) plugs.old.items plugs.new.items plan.picks cfg.now.entries (length cfg.now.entries)) }
     ensures left { (r : RuleRefusal) → result ≡ Err r → (r ≡ RuleRefusal.NoMemory → ⊥)
         → IsLeft (λ b. kind b) (λ b. taken b) (λ b. spec_now b) (λ b e. first_fault b e) (λ b e. spec_taken b e) plugs.old.items plugs.new.items cfg.now r }
     ensures short { result ≡ Err RuleRefusal.NoMemory

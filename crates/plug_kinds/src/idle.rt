@@ -1,5 +1,6 @@
-ghost use Rattle.std.specs.Prelude.{◌≡◌, [], ℕ, Option, None, IfSome};
+ghost use Rattle.std.specs.Prelude.{◌≡◌, [], ℕ, Option, None, IfSome, IsSome};
 ghost use Rattle.stage_map.specs.declared.config.PlugEntry.{PlugEntry};
+ghost use Rattle.plug_api.specs.Spec.{IsSpec};
 ghost use Rattle.plug_kinds.specs.Nothing.{IsIdle};
 ghost use Rattle.plug_kinds.specs.Kinds.{fault_in};
 
@@ -23,6 +24,7 @@ pub struct Idle {
 impl Idle {
     /// The plug-in that says this of itself, where a plug-in may, and it offers nothing.
     pub fn of(spec: PlugSpec) -> Option<Idle>
+        ensures some { spec.offers ≡ [] → IsSpec spec → IsSome result }
         ensures name { IfSome result (λ b. ⟦<Idle as Plugin>⟧.kind b ≡ spec.name) }
         ensures taken { IfSome result (λ b. ⟦<Idle as Plugin>⟧.taken b ≡ None) }
         ensures spec { IfSome result (λ b. ⟦<Idle as Plugin>⟧.spec_now b ≡ spec) }

@@ -43,6 +43,16 @@ returns-in-Ok-plan_of-clause-took g c =
     let is = c.in-Ok-plan_of.ensures c.in-Ok-take_all.specs.items c.in-Ok-check_specs.ensures.ok.1 in
     rw is.picks_are (rw c.items-entries.ensures at c.in-Ok-take_all.ensures.configured)
 
+pub returns-in-Ok-plan_of-clause-begun : goal.returns-in-Ok-plan_of-clause-begun
+returns-in-Ok-plan_of-clause-begun g c =
+    let is = c.in-Ok-plan_of.ensures c.in-Ok-take_all.specs.items c.in-Ok-check_specs.ensures.ok.1 in
+    rw is.picks_are (rw c.items-entries.ensures at c.in-Ok-take_all.ensures.begun)
+
+pub returns-in-Ok-plan_of-clause-builds : goal.returns-in-Ok-plan_of-clause-builds
+returns-in-Ok-plan_of-clause-builds g c =
+    let is = c.in-Ok-plan_of.ensures c.in-Ok-take_all.specs.items c.in-Ok-check_specs.ensures.ok.1 in
+    rw is.picks_are (rw c.items-entries.ensures at c.in-Ok-take_all.ensures.builds)
+
 pub returns-in-Err-take_all-clause-short : goal.returns-in-Err-take_all-clause-short
 returns-in-Err-take_all-clause-short g c = λ e.
     left_short _ _ _ _ _ _ _ c.args.cfg.now _ (rw c.items-entries.ensures at c.in-Ok.ensures.ok) (rw c.items-entries.ensures at c.in-Err-take_all.ensures.stopped)
