@@ -15,17 +15,16 @@ use Rattle.bus_law.specs.Answers.{driven, stepped, fetch_bus, access_bus}
 use Rattle.bus_law.specs.Answers as answers
 use Rattle.bus_law.proofs.Runs.{run_is_honest}
 use Rattle.bus_law.proofs.RunsInTime.{run_is_within}
-use Rattle.verilog_flat.specs.declared.sim.FlatSim.{FlatSim}
 use Rattle.verilog_mean.specs.Names.{is_among}
 use Rattle.verilog_mean.specs.Plain.{Item, Plain}
 use Rattle.verilog_mean.specs.Plain.Item.{Wire, Reg, Array, Assign, Next, Reset, Write}
-use Rattle.verilog_mean.specs.Cycle.{value, next, width_in}
+use Rattle.verilog_mean.specs.Cycle.{State, value, next, width_in}
 use Rattle.verilog_mean.specs.CorePorts.{HasCorePorts}
-use Rattle.verilog_mean.specs.Run.{IsInput, AllZero, PortsFit, trace_of}
+use Rattle.verilog_mean.specs.Run.{IsInput, IsStart, AllZero, PortsFit, trace_of}
 use Rattle.verilog_mean.specs.Run as run
 use Rattle.verilog_mean.specs.Zero.{zero_state, cells_in}
-use Rattle.verilog_sim.specs.Simulates.{AllFit, Shows, Simulates}
-use Rattle.verilog_sim.specs.Layouts.{layout_of, output_names}
+use Rattle.verilog_sim.specs.Simulates.{AllFit}
+use Rattle.verilog_sim.specs.Layouts.{output_names}
 use Rattle.core_sim.specs.Joint.{Joint, joint_at, joint_inputs, joint_next, outputs_of, reset_in, run_inputs, run_of}
 use Rattle.core_sim.specs.Bench.{IsCore, event_in, write_in}
 use Rattle.core_sim.specs.Ends.{accepted_in}
@@ -74,27 +73,27 @@ pub reset_below : (k : ℕ) → reset_in k < 2
 reset_below zero = omega arith
 reset_below (suc k) = omega arith
 
-module _ (m : Plain) (memory : Memory) (delays : List ℕ) where
+module _ (m : Plain) (contents : State) (memory : Memory) (delays : List ℕ) (lines : ℕ → ℕ) where
   abbrev pub joint : ℕ → Joint
-  joint k = joint_at m memory delays k
+  joint k = joint_at m contents memory delays lines k
 
   -- what the core drives by cycle
   abbrev pub outs : ℕ → BusOut
-  outs k = outputs_of (value m (joint k).core (run_inputs m memory delays k))
+  outs k = outputs_of (value m (joint k).core (run_inputs m contents memory delays lines k))
 
-  pub core_at : (k : ℕ) → (joint k).core ≡ run.state_at m (zero_state m) (run_inputs m memory delays) k
+  pub core_at : (k : ℕ) → (joint k).core ≡ run.state_at m contents (run_inputs m contents memory delays lines) k
   unfolding joint_at run.state_at
   core_at zero = refl
-  core_at (suc k) = ap (λ s. next m s (run_inputs m memory delays k)) (core_at k)
+  core_at (suc k) = ap (λ s. next m s (run_inputs m contents memory delays lines k)) (core_at k)
 
   pub buses_at : (k : ℕ) → (joint k).buses ≡ answers.state_at memory delays outs k
   unfolding joint_at answers.state_at
   buses_at zero = refl
   buses_at (suc k) = ap (λ s. stepped s (outs k)) (buses_at k)
 
-  pub value_at : (k : ℕ) (x : List ℕ) → run_of m memory delays k x ≡ value m (joint k).core (run_inputs m memory delays k) x
+  pub value_at : (k : ℕ) (x : List ℕ) → run_of m contents memory delays lines k x ≡ value m (joint k).core (run_inputs m contents memory delays lines k) x
   unfolding trace_of
-  value_at k x = ap (λ s. value m s (run_inputs m memory delays k) x) (sym (core_at k))
+  value_at k x = ap (λ s. value m s (run_inputs m contents memory delays lines k) x) (sym (core_at k))
 
   -- ---- all of it fits
 
@@ -103,33 +102,23 @@ module _ (m : Plain) (memory : Memory) (delays : List ℕ) where
   words_at h zero = words_at_start memory delays h
   words_at h (suc k) = words_next (joint k).buses (outs k) (words_at h k)
 
-  pub inputs_at : IsCore m → IsMemory memory → (k : ℕ) → PortsFit m.ports (run_inputs m memory delays k)
-  inputs_at core h k = core.fits (reset_in k) (driven (joint k).buses) (reset_below k) (fetched_word (joint k).buses (words_at h k)) (accessed_word (joint k).buses (words_at h k))
+  pub inputs_at : IsCore m → IsMemory memory → (k : ℕ) → PortsFit m.ports (run_inputs m contents memory delays lines k)
+  inputs_at core h k = core.fits (reset_in k) (driven (joint k).buses) (lines k) (reset_below k) (fetched_word (joint k).buses (words_at h k)) (accessed_word (joint k).buses (words_at h k))
 
-  module _ (sim : FlatSim) (core : IsCore m) (h : IsMemory memory) (simulates : Simulates m (layout_of m) sim)
-      (regs cells : List ℕ) (start : Shows m (layout_of m) (zero_state m) regs cells) where
-    pub shown_at : (k : ℕ) → (rs : List ℕ) × (cs : List ℕ) × Shows m (layout_of m) (joint k).core rs cs
-    unfolding joint_at
-    shown_at zero = (regs, cells, start)
-    shown_at (suc k) =
-        let s = shown_at k in
-        (_, _, (simulates (joint k).core (run_inputs m memory delays k) s.0 s.1 s.2 (inputs_at core h k)).2)
-
-    pub outputs_at : (k : ℕ) → AllFit m (value m (joint k).core (run_inputs m memory delays k)) (output_names m.ports)
-    outputs_at k = let s = shown_at k in (simulates (joint k).core (run_inputs m memory delays k) s.0 s.1 s.2 (inputs_at core h k)).1
-
+  module _ (core : IsCore m) (h : IsMemory memory)
+      (outputs_at : (k : ℕ) → AllFit m (value m (joint k).core (run_inputs m contents memory delays lines k)) (output_names m.ports)) where
     module _ (has : HasCorePorts m) where
       -- a flag that the core drives
       flag_at : (k : ℕ) (p : CorePort) → is_input p ≡ false → width_of p ≡ 1
-          → on_port (run_of m memory delays) p k ≡ one_if (eqb (value m (joint k).core (run_inputs m memory delays k) (name_of p)) 1)
-      flag_at k p o w = value_at k (name_of p) ∙ flag_is _ (subst (λ n. value m (joint k).core (run_inputs m memory delays k) (name_of p) < 2 ^ n) w
-          (output_fits m (value m (joint k).core (run_inputs m memory delays k)) p core (outputs_at k) o))
+          → on_port (run_of m contents memory delays lines) p k ≡ one_if (eqb (value m (joint k).core (run_inputs m contents memory delays lines k) (name_of p)) 1)
+      flag_at k p o w = value_at k (name_of p) ∙ flag_is _ (subst (λ n. value m (joint k).core (run_inputs m contents memory delays lines k) (name_of p) < 2 ^ n) w
+          (output_fits m (value m (joint k).core (run_inputs m contents memory delays lines k)) p core (outputs_at k) o))
 
       -- what the core is given
-      input_at : (k : ℕ) (p : CorePort) → is_input p ≡ true → on_port (run_of m memory delays) p k ≡ run_inputs m memory delays k (name_of p)
-      input_at k p i = value_at k (name_of p) ∙ input_read m (joint k).core (run_inputs m memory delays k) p has i
+      input_at : (k : ℕ) (p : CorePort) → is_input p ≡ true → on_port (run_of m contents memory delays lines) p k ≡ run_inputs m contents memory delays lines k (name_of p)
+      input_at k p i = value_at k (name_of p) ∙ input_read m (joint k).core (run_inputs m contents memory delays lines k) p has i
 
-      pub instruction_bus_is : instruction_bus (run_of m memory delays) ≡ fetch_bus memory delays outs
+      pub instruction_bus_is : instruction_bus (run_of m contents memory delays lines) ≡ fetch_bus memory delays outs
       unfolding name_of
       instruction_bus_is = λ i. record {
         cmd_valid = λ k. flag_at k port.ib_cmd_valid refl refl i;
@@ -143,7 +132,7 @@ module _ (m : Plain) (memory : Memory) (delays : List ℕ) where
         rsp_data = λ k. (input_at k port.ib_rsp_data refl ∙ ap (λ s. (driven s).ib_rsp_data) (buses_at k)) i;
       }
 
-      pub data_bus_is : data_bus (run_of m memory delays) ≡ access_bus memory delays outs
+      pub data_bus_is : data_bus (run_of m contents memory delays lines) ≡ access_bus memory delays outs
       unfolding name_of
       data_bus_is = λ i. record {
         cmd_valid = λ k. flag_at k port.db_cmd_valid refl refl i;
@@ -157,18 +146,18 @@ module _ (m : Plain) (memory : Memory) (delays : List ℕ) where
         rsp_data = λ k. (input_at k port.db_rsp_data refl ∙ ap (λ s. (driven s).db_rsp_data) (buses_at k)) i;
       }
 
-      is_input_run : IsInput m (run_inputs m memory delays)
+      is_input_run : IsInput m (run_inputs m contents memory delays lines)
       unfolding name_of
       is_input_run = record { fits = inputs_at core h; first = refl; later = λ k. refl }
 
-      pub is_over_buses : IsOverBuses m memory delays
-      is_over_buses = record {
-        start = start.0;
+      pub is_over_buses : IsStart m.items contents → IsOverBuses m contents memory delays lines
+      is_over_buses start = record {
+        start = start;
         zeros = all_zero m m.items;
         inputs = is_input_run;
-        honest = λ n. subst (λ b. Honest b (data_bus (run_of m memory delays)) memory n) (sym instruction_bus_is)
+        honest = λ n. subst (λ b. Honest b (data_bus (run_of m contents memory delays lines)) memory n) (sym instruction_bus_is)
             (subst (λ b. Honest (fetch_bus memory delays outs) b memory n) (sym data_bus_is) (run_is_honest memory delays outs n));
-        within = λ d n all fetch access. subst (λ b. Within b (data_bus (run_of m memory delays)) (d + 1) n) (sym instruction_bus_is)
+        within = λ d n all fetch access. subst (λ b. Within b (data_bus (run_of m contents memory delays lines)) (d + 1) n) (sym instruction_bus_is)
             (subst (λ b. Within (fetch_bus memory delays outs) b (d + 1) n) (sym data_bus_is)
             (run_is_within memory delays outs d n all
             (λ k l. subst (λ b. KeepsDuties b k) instruction_bus_is (fetch k l))
@@ -176,9 +165,9 @@ module _ (m : Plain) (memory : Memory) (delays : List ℕ) where
       }
 
 -- what a cycle tells is the event of the run
-pub told_is : (m : Plain) (memory : Memory) (delays : List ℕ) (k : ℕ)
-    → event_in k (value m (joint_at m memory delays k).core (run_inputs m memory delays k)) ≡ event_in k (run_of m memory delays k)
-told_is m memory delays k = ap (event_in k) (sym (λ i x. value_at m memory delays k x i))
+pub told_is : (m : Plain) (contents : State) (memory : Memory) (delays : List ℕ) (lines : ℕ → ℕ) (k : ℕ)
+    → event_in k (value m (joint_at m contents memory delays lines k).core (run_inputs m contents memory delays lines k)) ≡ event_in k (run_of m contents memory delays lines k)
+told_is m contents memory delays lines k = ap (event_in k) (sym (λ i x. value_at m contents memory delays lines k x i))
 
 -- a truth value as a number
 one_is : (b : Bool) → b ≡ eqb (one_if b) 1
@@ -186,25 +175,25 @@ one_is true = refl
 one_is false = refl
 
 -- the write that a bench tells of a cycle is the one that the run's data bus accepts in it
-pub written_is : (m : Plain) (memory : Memory) (delays : List ℕ) (k : ℕ) → IsCore m → write_in m k (joint_at m memory delays k) ≡ accepted_in (run_of m memory delays) k
+pub written_is : (m : Plain) (contents : State) (memory : Memory) (delays : List ℕ) (lines : ℕ → ℕ) (k : ℕ) → IsCore m → write_in m k (lines k) (joint_at m contents memory delays lines k) ≡ accepted_in (run_of m contents memory delays lines) k
 unfolding is_write is_accepted is_given name_of
-written_is m memory delays zero core = refl
-written_is m memory delays (suc k) core = λ i. cond ((eqb (drives port.db_cmd_valid i) 1 && ready i) && eqb (drives port.db_cmd_write i) 1)
+written_is m contents memory delays lines zero core = refl
+written_is m contents memory delays lines (suc k) core = λ i. cond ((eqb (drives port.db_cmd_valid i) 1 && ready i) && eqb (drives port.db_cmd_write i) 1)
     (store_of (drives port.db_cmd_addr i) (drives port.db_cmd_data i) (drives port.db_cmd_mask i) ∷ []) []
   where
     here : Joint
-    here = joint_at m memory delays (suc k)
+    here = joint_at m contents memory delays lines (suc k)
 
-    drives : (p : CorePort) → value m here.core (joint_inputs (suc k) here) (name_of p) ≡ run_of m memory delays (suc k) (name_of p)
-    drives p = sym (value_at m memory delays (suc k) (name_of p))
+    drives : (p : CorePort) → value m here.core (joint_inputs (suc k) (lines (suc k)) here) (name_of p) ≡ run_of m contents memory delays lines (suc k) (name_of p)
+    drives p = sym (value_at m contents memory delays lines (suc k) (name_of p))
 
-    input : joint_inputs (suc k) here (name_of port.db_cmd_ready) ≡ one_if (driven here.buses).db_cmd_ready
+    input : joint_inputs (suc k) (lines (suc k)) here (name_of port.db_cmd_ready) ≡ one_if (driven here.buses).db_cmd_ready
     input = refl
 
-    ready : (driven here.buses).db_cmd_ready ≡ eqb (run_of m memory delays (suc k) (name_of port.db_cmd_ready)) 1
+    ready : (driven here.buses).db_cmd_ready ≡ eqb (run_of m contents memory delays lines (suc k) (name_of port.db_cmd_ready)) 1
     ready = one_is (driven here.buses).db_cmd_ready
-        ∙ ap (λ v. eqb v 1) (sym input ∙ sym (core.reads port.db_cmd_ready refl here.core (joint_inputs (suc k) here)) ∙ drives port.db_cmd_ready)
+        ∙ ap (λ v. eqb v 1) (sym input ∙ sym (core.reads port.db_cmd_ready refl here.core (joint_inputs (suc k) (lines (suc k)) here)) ∙ drives port.db_cmd_ready)
 
-pub joint_later : (m : Plain) (memory : Memory) (delays : List ℕ) (k : ℕ) → joint_next m k (joint_at m memory delays k) ≡ joint_at m memory delays (k + 1)
+pub joint_later : (m : Plain) (contents : State) (memory : Memory) (delays : List ℕ) (lines : ℕ → ℕ) (k : ℕ) → joint_next m k (lines k) (joint_at m contents memory delays lines k) ≡ joint_at m contents memory delays lines (k + 1)
 unfolding joint_at
-joint_later m memory delays k = ap (joint_at m memory delays) (sym (add-one k))
+joint_later m contents memory delays lines k = ap (joint_at m contents memory delays lines) (sym (add-one k))

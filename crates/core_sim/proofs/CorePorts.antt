@@ -1,5 +1,5 @@
 -- A module that declares each name once and has the ports of a core is one that a bench can run.
-use Rattle.std.proofs.Common.{◌≡◌, ℕ, zero, suc, ◌^◌, ◌<◌, Bool, true, false, not, eqb, List, [], ◌∷◌, ◌&&◌, ◌||◌, ◌⊎◌, inl, inr, length, get_or, Option, Some, refl, sym, ap, ◌∙◌, subst, arith}
+use Rattle.std.proofs.Common.{◌≡◌, ℕ, zero, suc, ◌^◌, ◌/◌, ◌%◌, ◌<◌, Bool, true, false, not, eqb, List, [], ◌∷◌, ◌&&◌, ◌||◌, ◌⊎◌, inl, inr, length, get_or, Option, Some, refl, sym, ap, ◌∙◌, subst, arith}
 use Rattle.std.specs.Cmp.Lexicographic.{bytes_decides}
 use Rattle.std.proofs.lemmas.Bool.{eqb-true}
 use Rattle.std.proofs.Math.Pow.{pow_pos}
@@ -290,56 +290,59 @@ one_if_below : (b : Bool) → one_if b < 2 ^ 1
 one_if_below true = omega arith
 one_if_below false = omega arith
 
-value_fits : (r : ℕ) (b : BusIn) → r < 2 → b.ib_rsp_data < 2 ^ 32 → b.db_rsp_data < 2 ^ 32 → (p : CorePort) → input_value r b p < 2 ^ width_of p
-value_fits r b h i d port.clk = omega arith
-value_fits r b h i d port.reset = h
-value_fits r b h i d port.ib_cmd_valid = omega arith
-value_fits r b h i d port.ib_cmd_ready = one_if_below b.ib_cmd_ready
-value_fits r b h i d port.ib_cmd_addr = omega arith
-value_fits r b h i d port.ib_rsp_valid = one_if_below b.ib_rsp_valid
-value_fits r b h i d port.ib_rsp_error = one_if_below b.ib_rsp_error
-value_fits r b h i d port.ib_rsp_data = i
-value_fits r b h i d port.db_cmd_valid = omega arith
-value_fits r b h i d port.db_cmd_ready = one_if_below b.db_cmd_ready
-value_fits r b h i d port.db_cmd_write = omega arith
-value_fits r b h i d port.db_cmd_addr = omega arith
-value_fits r b h i d port.db_cmd_data = omega arith
-value_fits r b h i d port.db_cmd_mask = omega arith
-value_fits r b h i d port.db_rsp_valid = one_if_below b.db_rsp_valid
-value_fits r b h i d port.db_rsp_error = one_if_below b.db_rsp_error
-value_fits r b h i d port.db_rsp_data = d
-value_fits r b h i d port.irq_software = omega arith
-value_fits r b h i d port.irq_timer = omega arith
-value_fits r b h i d port.irq_external = omega arith
-value_fits r b h i d port.ev_valid = omega arith
-value_fits r b h i d port.ev_kind = omega arith
-value_fits r b h i d port.ev_pc = omega arith
-value_fits r b h i d port.ev_word = omega arith
-value_fits r b h i d port.ev_rd = omega arith
-value_fits r b h i d port.ev_value = omega arith
-value_fits r b h i d port.ev_cause = omega arith
-value_fits r b h i d port.fe_valid = omega arith
-value_fits r b h i d port.fe_take = omega arith
-value_fits r b h i d port.fe_pc = omega arith
+bit_below : (v : ℕ) → v % 2 < 2
+bit_below v = omega arith
+
+value_fits : (r : ℕ) (b : BusIn) (l : ℕ) → r < 2 → b.ib_rsp_data < 2 ^ 32 → b.db_rsp_data < 2 ^ 32 → (p : CorePort) → input_value r b l p < 2 ^ width_of p
+value_fits r b l h i d port.clk = omega arith
+value_fits r b l h i d port.reset = h
+value_fits r b l h i d port.ib_cmd_valid = omega arith
+value_fits r b l h i d port.ib_cmd_ready = one_if_below b.ib_cmd_ready
+value_fits r b l h i d port.ib_cmd_addr = omega arith
+value_fits r b l h i d port.ib_rsp_valid = one_if_below b.ib_rsp_valid
+value_fits r b l h i d port.ib_rsp_error = one_if_below b.ib_rsp_error
+value_fits r b l h i d port.ib_rsp_data = i
+value_fits r b l h i d port.db_cmd_valid = omega arith
+value_fits r b l h i d port.db_cmd_ready = one_if_below b.db_cmd_ready
+value_fits r b l h i d port.db_cmd_write = omega arith
+value_fits r b l h i d port.db_cmd_addr = omega arith
+value_fits r b l h i d port.db_cmd_data = omega arith
+value_fits r b l h i d port.db_cmd_mask = omega arith
+value_fits r b l h i d port.db_rsp_valid = one_if_below b.db_rsp_valid
+value_fits r b l h i d port.db_rsp_error = one_if_below b.db_rsp_error
+value_fits r b l h i d port.db_rsp_data = d
+value_fits r b l h i d port.irq_software = bit_below (l / 2 ^ 3)
+value_fits r b l h i d port.irq_timer = bit_below (l / 2 ^ 7)
+value_fits r b l h i d port.irq_external = bit_below (l / 2 ^ 11)
+value_fits r b l h i d port.ev_valid = omega arith
+value_fits r b l h i d port.ev_kind = omega arith
+value_fits r b l h i d port.ev_pc = omega arith
+value_fits r b l h i d port.ev_word = omega arith
+value_fits r b l h i d port.ev_rd = omega arith
+value_fits r b l h i d port.ev_value = omega arith
+value_fits r b l h i d port.ev_cause = omega arith
+value_fits r b l h i d port.fe_valid = omega arith
+value_fits r b l h i d port.fe_take = omega arith
+value_fits r b l h i d port.fe_pc = omega arith
 
 given_step : (w v : ℕ) (rest : Option ℕ) (b : Bool) → (b ≡ true → v < 2 ^ w) → or_else rest 0 < 2 ^ w → or_else (pick_if b v rest) 0 < 2 ^ w
 given_step w v rest true f g = f refl
 given_step w v rest false f g = g
 
-given_fits : (r : ℕ) (b : BusIn) (w : ℕ) (name : List ℕ) → r < 2 → b.ib_rsp_data < 2 ^ 32 → b.db_rsp_data < 2 ^ 32
+given_fits : (r : ℕ) (b : BusIn) (l w : ℕ) (name : List ℕ) → r < 2 → b.ib_rsp_data < 2 ^ 32 → b.db_rsp_data < 2 ^ 32
     → ((p : CorePort) → name ≡ name_of p → is_port (In w name) p ≡ true)
-    → (ps : List CorePort) → or_else (look (λ p. Some (name_of p, input_value r b p)) ps name) 0 < 2 ^ w
-given_fits r b w name h i d a [] = pow_pos w
-given_fits r b w name h i d a (p ∷ ps) =
-    given_step w (input_value r b p) (look (λ q. Some (name_of q, input_value r b q)) ps name) (same_name (name_of p) name)
-    (λ e. subst (λ n. input_value r b p < 2 ^ n) (sym (width_is w name p (a p (sym (same_is (name_of p) name e))))) (value_fits r b h i d p))
-    (given_fits r b w name h i d a ps)
+    → (ps : List CorePort) → or_else (look (λ p. Some (name_of p, input_value r b l p)) ps name) 0 < 2 ^ w
+given_fits r b l w name h i d a [] = pow_pos w
+given_fits r b l w name h i d a (p ∷ ps) =
+    given_step w (input_value r b l p) (look (λ q. Some (name_of q, input_value r b l q)) ps name) (same_name (name_of p) name)
+    (λ e. subst (λ n. input_value r b l p < 2 ^ n) (sym (width_is w name p (a p (sym (same_is (name_of p) name e))))) (value_fits r b l h i d p))
+    (given_fits r b l w name h i d a ps)
 
-pub inputs_fit : (r : ℕ) (b : BusIn) (qs : List Port) → r < 2 → b.ib_rsp_data < 2 ^ 32 → b.db_rsp_data < 2 ^ 32
-    → ((p : CorePort) → Agrees p qs) → PortsFit qs (inputs_of r b)
-inputs_fit r b [] h i d a = tt
-inputs_fit r b (In w name ∷ qs) h i d a = (given_fits r b w name h i d (λ p. (a p).0) all_ports, inputs_fit r b qs h i d (λ p. (a p).1))
-inputs_fit r b (Out w name ∷ qs) h i d a = inputs_fit r b qs h i d (λ p. (a p).1)
+pub inputs_fit : (r : ℕ) (b : BusIn) (l : ℕ) (qs : List Port) → r < 2 → b.ib_rsp_data < 2 ^ 32 → b.db_rsp_data < 2 ^ 32
+    → ((p : CorePort) → Agrees p qs) → PortsFit qs (inputs_of r b l)
+inputs_fit r b l [] h i d a = tt
+inputs_fit r b l (In w name ∷ qs) h i d a = (given_fits r b l w name h i d (λ p. (a p).0) all_ports, inputs_fit r b l qs h i d (λ p. (a p).1))
+inputs_fit r b l (Out w name ∷ qs) h i d a = inputs_fit r b l qs h i d (λ p. (a p).1)
 
 -- ---- what an input reads
 
@@ -357,7 +360,7 @@ all_agree t s h p = agrees p t.ports (declared_items t.items) [] s.names_once (h
 
 pub is_core : (t : Tree) → IsSound t → HasCorePorts (plain_tree t) → IsCore (plain_tree t)
 is_core t s h = record {
-  fits = λ r b x y z. inputs_fit r b (plain_ports t.ports) x y z (all_agree t s h);
+  fits = λ r b l x y z. inputs_fit r b l (plain_ports t.ports) x y z (all_agree t s h);
   outputs = λ p o. output_found p (plain_ports t.ports) o (has_each (plain_tree t) h p);
   widths = λ p o. width_found p (plain_ports t.ports) _ (all_agree t s h p) (has_each (plain_tree t) h p);
   reads = λ p o state ins. input_read (plain_tree t) state ins p h o;

@@ -1,6 +1,8 @@
 pub mod CorePorts
 pub mod Fits
 pub mod Bridge
+pub mod Widths
+pub mod HonestRuns
 pub mod Lists
 pub mod Outputs
 pub mod Steps

@@ -89,11 +89,11 @@ zero_step : (v : ℕ) (rest : Option ℕ) (b : Bool) → (b ≡ true → v ≡ 0
 zero_step v rest true f g = f refl
 zero_step v rest false f g = g
 
-zero_among : (r : ℕ) (b : BusIn) (x : List ℕ) → ((p : CorePort) → x ≡ name_of p → input_value r b p ≡ 0) → (ps : List CorePort)
-    → or_else (look (λ p. Some (name_of p, input_value r b p)) ps x) 0 ≡ 0
-zero_among r b x h [] = refl
-zero_among r b x h (p ∷ ps) = zero_step (input_value r b p) (look (λ q. Some (name_of q, input_value r b q)) ps x) (same_name (name_of p) x)
-    (λ e. h p (sym (same_is (name_of p) x e))) (zero_among r b x h ps)
+zero_among : (r : ℕ) (b : BusIn) (l : ℕ) (x : List ℕ) → ((p : CorePort) → x ≡ name_of p → input_value r b l p ≡ 0) → (ps : List CorePort)
+    → or_else (look (λ p. Some (name_of p, input_value r b l p)) ps x) 0 ≡ 0
+zero_among r b l x h [] = refl
+zero_among r b l x h (p ∷ ps) = zero_step (input_value r b l p) (look (λ q. Some (name_of q, input_value r b l q)) ps x) (same_name (name_of p) x)
+    (λ e. h p (sym (same_is (name_of p) x e))) (zero_among r b l x h ps)
 
-pub zero_given : (r : ℕ) (b : BusIn) (x : List ℕ) → ((p : CorePort) → x ≡ name_of p → input_value r b p ≡ 0) → inputs_of r b x ≡ 0
-zero_given r b x h = zero_among r b x h all_ports
+pub zero_given : (r : ℕ) (b : BusIn) (l : ℕ) (x : List ℕ) → ((p : CorePort) → x ≡ name_of p → input_value r b l p ≡ 0) → inputs_of r b l x ≡ 0
+zero_given r b l x h = zero_among r b l x h all_ports

@@ -54,11 +54,11 @@ module _ (m : Plain) (val : List ℕ → ℕ) (outs : List ℕ) (p : Places) (e 
     })) None
 
 -- the write of a cycle
-pub write_none : (m : Plain) (j : Joint) (number : ℕ) → number ≡ 0 → write_in m number j ≡ []
-write_none m j zero e = refl
-write_none m j (suc k) e = cc
+pub write_none : (m : Plain) (j : Joint) (number lines : ℕ) → number ≡ 0 → write_in m number lines j ≡ []
+write_none m j zero lines e = refl
+write_none m j (suc k) lines e = cc
 
-pub write_is : (m : Plain) (j : Joint) (number : ℕ) → (number ≡ 0 → ⊥)
-    → write_in m number j ≡ accepted (driven j.buses) (outputs_of (value m j.core (joint_inputs number j)))
-write_is m j zero n = absurd (n refl)
-write_is m j (suc k) n = refl
+pub write_is : (m : Plain) (j : Joint) (number lines : ℕ) → (number ≡ 0 → ⊥)
+    → write_in m number lines j ≡ accepted (driven j.buses) (outputs_of (value m j.core (joint_inputs number lines j)))
+write_is m j zero lines n = absurd (n refl)
+write_is m j (suc k) lines n = refl

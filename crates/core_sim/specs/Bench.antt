@@ -1,6 +1,6 @@
 -- A simulator of a core and its buses, joined port by port.
 use Rattle.std.specs.Prelude.{◌≡◌, ℕ, zero, suc, ◌^◌, ◌%◌, ◌<◌, ◌+◌, Bool, true, false, cond, eqb, ◌&&◌, List, [], ◌∷◌, length, get_or, map, vec_len, Option, Some, None}
-use Rattle.core_words.specs.Values.{one_if}
+use Rattle.core_words.specs.Values.{bits_of, one_if}
 use Rattle.core_ports.specs.Ports.{CorePort, name_of, is_input, width_of}
 use Rattle.core_ports.specs.Ports as port
 use Rattle.core_ports.specs.Trace.{PortEvent}
@@ -18,7 +18,7 @@ use Rattle.core_sim.specs.declared.event.Event.{Event}
 use Rattle.core_sim.specs.declared.ended.Ended.{Ended}
 use Rattle.core_sim.specs.declared.ended.Ended.TheVariants.{Exit, Stopped}
 use Rattle.core_sim.specs.declared.ports.InputPort.{InputPort}
-use Rattle.core_sim.specs.declared.ports.InputPort.TheVariants.{Reset, IbCmdReady, IbRspValid, IbRspError, IbRspData, DbCmdReady, DbRspValid, DbRspError, DbRspData, Zero}
+use Rattle.core_sim.specs.declared.ports.InputPort.TheVariants.{Reset, IbCmdReady, IbRspValid, IbRspError, IbRspData, DbCmdReady, DbRspValid, DbRspError, DbRspData, IrqSoftware, IrqTimer, IrqExternal, Zero}
 use Rattle.core_sim.specs.declared.ports.Places.{Places}
 use Rattle.core_sim.specs.declared.bench.Bench.{Bench}
 use Rattle.core_sim.specs.Joint.{Joint, inputs_of, joint_inputs, joint_next, outputs_of}
@@ -79,23 +79,26 @@ abbrev pub accepted : BusIn → BusOut → List Store
 accepted bus out = cond ((out.db_cmd_valid && bus.db_cmd_ready) && out.db_cmd_write) (store_of out.db_cmd_addr out.db_cmd_data out.db_cmd_mask ∷ []) []
 
 -- the same in a cycle; outputs in cycle 0 count as nothing
-abbrev pub write_in : Plain → (cycle : ℕ) → Joint → List Store
-write_in m zero j = []
-write_in m (suc k) j = accepted (driven j.buses) (outputs_of (value m j.core (joint_inputs (suc k) j)))
+abbrev pub write_in : Plain → (cycle lines : ℕ) → Joint → List Store
+write_in m zero lines j = []
+write_in m (suc k) lines j = accepted (driven j.buses) (outputs_of (value m j.core (joint_inputs (suc k) lines j)))
 
 -- ---- what an input is given
 
-abbrev pub given : (reset : ℕ) → BusIn → InputPort → ℕ
-given reset buses Reset = reset
-given reset buses IbCmdReady = one_if buses.ib_cmd_ready
-given reset buses IbRspValid = one_if buses.ib_rsp_valid
-given reset buses IbRspError = one_if buses.ib_rsp_error
-given reset buses IbRspData = buses.ib_rsp_data
-given reset buses DbCmdReady = one_if buses.db_cmd_ready
-given reset buses DbRspValid = one_if buses.db_rsp_valid
-given reset buses DbRspError = one_if buses.db_rsp_error
-given reset buses DbRspData = buses.db_rsp_data
-given reset buses Zero = 0
+abbrev pub given : (reset : ℕ) → BusIn → (lines : ℕ) → InputPort → ℕ
+given reset buses lines Reset = reset
+given reset buses lines IbCmdReady = one_if buses.ib_cmd_ready
+given reset buses lines IbRspValid = one_if buses.ib_rsp_valid
+given reset buses lines IbRspError = one_if buses.ib_rsp_error
+given reset buses lines IbRspData = buses.ib_rsp_data
+given reset buses lines DbCmdReady = one_if buses.db_cmd_ready
+given reset buses lines DbRspValid = one_if buses.db_rsp_valid
+given reset buses lines DbRspError = one_if buses.db_rsp_error
+given reset buses lines DbRspData = buses.db_rsp_data
+given reset buses lines IrqSoftware = bits_of lines 3 3
+given reset buses lines IrqTimer = bits_of lines 7 7
+given reset buses lines IrqExternal = bits_of lines 11 11
+given reset buses lines Zero = 0
 
 -- ---- where the outputs stand
 
@@ -168,7 +171,7 @@ event_at p outs = cond (flag_of outs p.ev_valid) (Some (record {
 
 -- the ports of a core, as a bench needs them
 pub record IsCore (m : Plain) : Type 0 where
-  pub fits : (reset : ℕ) (buses : BusIn) → reset < 2 → buses.ib_rsp_data < 2 ^ 32 → buses.db_rsp_data < 2 ^ 32 → PortsFit m.ports (inputs_of reset buses)
+  pub fits : (reset : ℕ) (buses : BusIn) (lines : ℕ) → reset < 2 → buses.ib_rsp_data < 2 ^ 32 → buses.db_rsp_data < 2 ^ 32 → PortsFit m.ports (inputs_of reset buses lines)
   pub outputs : (p : CorePort) → is_input p ≡ false → is_among (name_of p) (output_names m.ports) ≡ true
   pub widths : (p : CorePort) → is_input p ≡ false → width_in m (name_of p) ≡ width_of p
   pub reads : (p : CorePort) → is_input p ≡ true → (s : State) (ins : List ℕ → ℕ) → value m s ins (name_of p) ≡ ins (name_of p)
@@ -185,11 +188,11 @@ pub record IsBench (m : Plain) (j : Joint) (b : Bench) : Type 0 where
   pub simulates : Simulates m (layout_of m) b.sim.flat
   pub shows : Shows m (layout_of m) j.core b.sim.flat.regs.items b.sim.flat.cells.items
   pub buses : b.buses ≡ j.buses
-  pub inputs : (reset : ℕ) (buses : BusIn) → map (given reset buses) b.inputs.items ≡ map (inputs_of reset buses) (input_names m.ports)
+  pub inputs : (reset : ℕ) (buses : BusIn) (lines : ℕ) → map (given reset buses lines) b.inputs.items ≡ map (inputs_of reset buses lines) (input_names m.ports)
   pub places : HasPlaces (output_names m.ports) b.places
 
 -- a cycle has passed: the outputs are those that the core had in it, and the bench holds what comes next
-pub record HasPassed (m : Plain) (number : ℕ) (j : Joint) (b : Bench) : Type 0 where
-  pub outs : b.outs.items ≡ map (value m j.core (joint_inputs number j)) (output_names m.ports)
-  pub fit : AllFit m (value m j.core (joint_inputs number j)) (output_names m.ports)
-  pub next : IsBench m (joint_next m number j) b
+pub record HasPassed (m : Plain) (number lines : ℕ) (j : Joint) (b : Bench) : Type 0 where
+  pub outs : b.outs.items ≡ map (value m j.core (joint_inputs number lines j)) (output_names m.ports)
+  pub fit : AllFit m (value m j.core (joint_inputs number lines j)) (output_names m.ports)
+  pub next : IsBench m (joint_next m number lines j) b

@@ -1,7 +1,7 @@
--- A core and its two buses, cycle by cycle: each is given what the other drives. All start contents are 0, the buses
--- answer as one memory after delays, and the clock's own value and the interrupt lines are 0.
+-- A core and its two buses, cycle by cycle: each is given what the other drives. The buses answer as one
+-- memory after delays, the interrupt lines are given by cycle, and the clock's own value is 0.
 use Rattle.std.specs.Prelude.{ℕ, zero, suc, eqb, List, Some}
-use Rattle.core_words.specs.Values.{one_if}
+use Rattle.core_words.specs.Values.{bits_of, one_if}
 use Rattle.core_ports.specs.Ports.{CorePort, all_ports, name_of}
 use Rattle.core_ports.specs.Ports as port
 use Rattle.core_ports.specs.Trace.{Trace}
@@ -13,26 +13,28 @@ use Rattle.verilog_mean.specs.Look.{look, or_else}
 use Rattle.verilog_mean.specs.Plain.{Plain}
 use Rattle.verilog_mean.specs.Cycle.{State, value, next}
 use Rattle.verilog_mean.specs.Run.{Inputs, trace_of}
-use Rattle.verilog_mean.specs.Zero.{zero_state}
 
 -- ---- what each drives
 
--- what a port of the core is given
-abbrev pub input_value : (reset : ℕ) → BusIn → CorePort → ℕ
-input_value reset buses port.reset = reset
-input_value reset buses port.ib_cmd_ready = one_if buses.ib_cmd_ready
-input_value reset buses port.ib_rsp_valid = one_if buses.ib_rsp_valid
-input_value reset buses port.ib_rsp_error = one_if buses.ib_rsp_error
-input_value reset buses port.ib_rsp_data = buses.ib_rsp_data
-input_value reset buses port.db_cmd_ready = one_if buses.db_cmd_ready
-input_value reset buses port.db_rsp_valid = one_if buses.db_rsp_valid
-input_value reset buses port.db_rsp_error = one_if buses.db_rsp_error
-input_value reset buses port.db_rsp_data = buses.db_rsp_data
-input_value reset buses _ = 0
+-- what a port of the core is given; bits 3, 7 and 11 of `lines` are the interrupt lines
+abbrev pub input_value : (reset : ℕ) → BusIn → (lines : ℕ) → CorePort → ℕ
+input_value reset buses lines port.reset = reset
+input_value reset buses lines port.ib_cmd_ready = one_if buses.ib_cmd_ready
+input_value reset buses lines port.ib_rsp_valid = one_if buses.ib_rsp_valid
+input_value reset buses lines port.ib_rsp_error = one_if buses.ib_rsp_error
+input_value reset buses lines port.ib_rsp_data = buses.ib_rsp_data
+input_value reset buses lines port.db_cmd_ready = one_if buses.db_cmd_ready
+input_value reset buses lines port.db_rsp_valid = one_if buses.db_rsp_valid
+input_value reset buses lines port.db_rsp_error = one_if buses.db_rsp_error
+input_value reset buses lines port.db_rsp_data = buses.db_rsp_data
+input_value reset buses lines port.irq_software = bits_of lines 3 3
+input_value reset buses lines port.irq_timer = bits_of lines 7 7
+input_value reset buses lines port.irq_external = bits_of lines 11 11
+input_value reset buses lines _ = 0
 
 -- the same by name; other names are given 0
-abbrev pub inputs_of : (reset : ℕ) → BusIn → List ℕ → ℕ
-inputs_of reset buses x = or_else (look (λ p. Some (name_of p, input_value reset buses p)) all_ports x) 0
+abbrev pub inputs_of : (reset : ℕ) → BusIn → (lines : ℕ) → List ℕ → ℕ
+inputs_of reset buses lines x = or_else (look (λ p. Some (name_of p, input_value reset buses lines p)) all_ports x) 0
 
 -- what the core drives on the buses, from the values of its ports
 abbrev pub outputs_of : (List ℕ → ℕ) → BusOut
@@ -57,27 +59,27 @@ pub record Joint : Type 0 where
   pub core : State
   pub buses : BusState
 
-abbrev pub joint_inputs : (cycle : ℕ) → Joint → List ℕ → ℕ
-joint_inputs k j = inputs_of (reset_in k) (driven j.buses)
+abbrev pub joint_inputs : (cycle lines : ℕ) → Joint → List ℕ → ℕ
+joint_inputs k lines j = inputs_of (reset_in k) (driven j.buses) lines
 
-abbrev pub joint_start : Plain → Memory → (delays : List ℕ) → Joint
-joint_start m memory delays = record { core = zero_state m; buses = state_at_start memory delays }
+abbrev pub joint_start : (contents : State) → Memory → (delays : List ℕ) → Joint
+joint_start contents memory delays = record { core = contents; buses = state_at_start memory delays }
 
-abbrev pub joint_next : Plain → (cycle : ℕ) → Joint → Joint
-joint_next m k j = record {
-  core = next m j.core (joint_inputs k j);
-  buses = stepped j.buses (outputs_of (value m j.core (joint_inputs k j)));
+abbrev pub joint_next : Plain → (cycle lines : ℕ) → Joint → Joint
+joint_next m k lines j = record {
+  core = next m j.core (joint_inputs k lines j);
+  buses = stepped j.buses (outputs_of (value m j.core (joint_inputs k lines j)));
 }
 
 -- both as a cycle begins
-unfoldable pub joint_at : Plain → Memory → (delays : List ℕ) → (cycle : ℕ) → Joint
-joint_at m memory delays zero = joint_start m memory delays
-joint_at m memory delays (suc k) = joint_next m k (joint_at m memory delays k)
+unfoldable pub joint_at : Plain → (contents : State) → Memory → (delays : List ℕ) → (lines : ℕ → ℕ) → (cycle : ℕ) → Joint
+joint_at m contents memory delays lines zero = joint_start contents memory delays
+joint_at m contents memory delays lines (suc k) = joint_next m k (lines k) (joint_at m contents memory delays lines k)
 
 -- ---- the run
 
-abbrev pub run_inputs : Plain → Memory → (delays : List ℕ) → Inputs
-run_inputs m memory delays k = joint_inputs k (joint_at m memory delays k)
+abbrev pub run_inputs : Plain → (contents : State) → Memory → (delays : List ℕ) → (lines : ℕ → ℕ) → Inputs
+run_inputs m contents memory delays lines k = joint_inputs k (lines k) (joint_at m contents memory delays lines k)
 
-abbrev pub run_of : Plain → Memory → (delays : List ℕ) → Trace
-run_of m memory delays = trace_of m (zero_state m) (run_inputs m memory delays)
+abbrev pub run_of : Plain → (contents : State) → Memory → (delays : List ℕ) → (lines : ℕ → ℕ) → Trace
+run_of m contents memory delays lines = trace_of m contents (run_inputs m contents memory delays lines)

@@ -1,3 +1,4 @@
+pub mod Spans
 pub mod Joint
 pub mod Lines
 pub mod Window

@@ -5,6 +5,7 @@ ghost use Rattle.verilog_mean.specs.Checked.{IsChecked};
 ghost use Rattle.verilog_mean.specs.Cycle.{value};
 ghost use Rattle.verilog_mean.specs.Erase.{plain_tree};
 ghost use Rattle.verilog_mean.specs.Plain.{Plain};
+ghost use Rattle.verilog_mean.specs.Zero.{zero_state};
 ghost use Rattle.core_sim.specs.Joint.{Joint, joint_inputs, joint_next, joint_start, outputs_of, reset_in};
 ghost use Rattle.core_sim.specs.Bench.{HasPassed, IsBench, IsCore, IsReady, accepted, event_in, masked, write_in};
 ghost use Rattle.core_sim.specs.Pending.{noted};
@@ -41,7 +42,7 @@ impl Bench {
         requires delays { 0 < length delays.now }
         ensures ready { IfOk result (λ b. IsReady b) }
         ensures memory { IsMemory mem }
-        ensures bench { IfOk result (λ b. IsBench (plain_tree checked.now.tree) (joint_start (plain_tree checked.now.tree) mem delays.now) b) }
+        ensures bench { IfOk result (λ b. IsBench (plain_tree checked.now.tree) (joint_start (zero_state (plain_tree checked.now.tree)) mem delays.now) b) }
     {
         // By its contract the memory is one of a system.
         let _base = mem.base();
@@ -61,16 +62,16 @@ impl Bench {
         })
     }
 
-    /// One cycle of this number, from 0 on. Answers the event that the core tells in it, and the write that the data
-    /// bus accepts in it.
-    pub fn cycle(&mut self, number: u64) -> Told
+    /// One cycle of this number, from 0 on, with these interrupt lines in bits 3, 7 and 11. Answers the event that the
+    /// core tells in it, and the write that the data bus accepts in it.
+    pub fn cycle(&mut self, number: u64, lines: u32) -> Told
         requires { IsReady self.old }
         ensures ready { IsReady self.new }
-        ensures event { (m : Plain) (j : Joint) → IsCore m → IsBench m j self.old → result.event ≡ event_in number (value m j.core (joint_inputs number j)) }
-        ensures write { (m : Plain) (j : Joint) → IsCore m → IsBench m j self.old → noted result.write ≡ write_in m number j }
-        ensures next { (m : Plain) (j : Joint) → IsCore m → IsBench m j self.old → IsBench m (joint_next m number j) self.new }
+        ensures event { (m : Plain) (j : Joint) → IsCore m → IsBench m j self.old → result.event ≡ event_in number (value m j.core (joint_inputs number lines j)) }
+        ensures write { (m : Plain) (j : Joint) → IsCore m → IsBench m j self.old → noted result.write ≡ write_in m number lines j }
+        ensures next { (m : Plain) (j : Joint) → IsCore m → IsBench m j self.old → IsBench m (joint_next m number lines j) self.new }
     {
-        let write = self.step(number);
+        let write = self.step(number, lines);
         if number == 0 {
             return Told {
                 event: None,
@@ -85,18 +86,19 @@ impl Bench {
 
     /// Gives the core what the buses drive, and the buses what the core drives, and passes the edge of the clock. Answers
     /// the write that the data bus accepts.
-    fn step(&mut self, number: u64) -> Option<Write>
+    fn step(&mut self, number: u64, lines: u32) -> Option<Write>
         requires { IsReady self.old }
         ensures ready { IsReady self.new }
-        ensures passed { (m : Plain) (j : Joint) → IsCore m → IsBench m j self.old → HasPassed m number j self.new }
+        ensures passed { (m : Plain) (j : Joint) → IsCore m → IsBench m j self.old → HasPassed m number lines j self.new }
         ensures write { (m : Plain) (j : Joint) → IsCore m → IsBench m j self.old
-            → noted result ≡ accepted (driven j.buses) (outputs_of (value m j.core (joint_inputs number j))) }
+            → noted result ≡ accepted (driven j.buses) (outputs_of (value m j.core (joint_inputs number lines j))) }
     {
         let driven = self.buses.drive();
         drive(
             self.inputs.as_slice(),
             reset_in(number),
             &driven,
+            lines,
             self.ins.as_mut_slice(),
         );
         self.sim.step(self.ins.as_slice(), &mut self.outs);

@@ -2,12 +2,22 @@ use core_host::List;
 use thiserror::Error;
 
 /// What a run is to do: whether it writes the lines of its events in place of the host text, of how many cycles it is
-/// at most, and the delays, in cycles, by which the buses answer in turn.
+/// at most, the delays, in cycles, by which the buses answer in turn, and when its interrupt lines are 1.
 #[derive(Debug, Drop)]
 pub struct RunOpts {
     pub trace: bool,
     pub cycles: u64,
     pub delays: List<u32>,
+    pub irqs: List<IrqSpan>,
+}
+
+/// Cycles in which an interrupt line is 1, from `from` to `to`, both included. The line is 3 (software), 7 (timer) or
+/// 11 (external).
+#[derive(Clone, Copy, Debug, Default, PartialEq, Eq)]
+pub struct IrqSpan {
+    pub line: u32,
+    pub from: u64,
+    pub to: u64,
 }
 
 /// How a run ended. The cycle of the end counts in `cycles`, an event that ended it in `events`.

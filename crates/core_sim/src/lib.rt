@@ -1,9 +1,10 @@
 //! Runs of a core's tree over buses that answer as one memory.
 //!
 //! A core and its buses are stepped in turn, cycle by cycle (`specs/Joint`), until the program asks for its end, an
-//! event stops the core, or as many cycles passed as were asked for (`specs/Ends`). Writes to the host window give the
-//! host text and the exit (`specs/Window`); in place of the text each event can give a line (`specs/Lines`). Where the
-//! run follows the machine, both are the output of the machine's run (`specs/Output`).
+//! event stops the core, or as many cycles passed as were asked for (`specs/Ends`). Interrupt lines are 1 in spans of
+//! cycles (`specs/Spans`). Writes to the host window give the host text and the exit (`specs/Window`); in place of the
+//! text each event can give a line (`specs/Lines`). Where the run follows the machine, both are the output of the
+//! machine's run (`specs/Output`).
 #![tactic(auto)]
 
 mod bench;
@@ -15,9 +16,6 @@ mod pending;
 mod ports;
 mod run;
 
-pub use ended::{BusName, Ended, RunOpts, SimRefusal};
-pub use law::outputs_agree;
+pub use ended::{BusName, Ended, IrqSpan, RunOpts, SimRefusal};
+pub use law::{answered_runs_are_honest, outputs_agree};
 pub use run::run_tree;
-
-#[cfg(test)]
-mod tests;

@@ -13,7 +13,7 @@ use core_host::Name;
 use std::alloc::{AllocError, Global};
 use verilog_tree::PortDecl;
 
-/// What drives an input of a core. `Zero` is the clock, an interrupt line, or no port of a core.
+/// What drives an input of a core. `Zero` is the clock, or no port of a core.
 #[derive(Clone, Copy, Drop)]
 pub enum InputPort {
     Reset,
@@ -25,13 +25,16 @@ pub enum InputPort {
     DbRspValid,
     DbRspError,
     DbRspData,
+    IrqSoftware,
+    IrqTimer,
+    IrqExternal,
     Zero,
 }
 
 impl InputPort {
     /// What drives the input of this name.
     fn named(name: &Name) -> InputPort
-        ensures { (reset : ℕ) (buses : BusIn) → given reset buses result ≡ inputs_of reset buses name.now }
+        ensures { (reset : ℕ) (buses : BusIn) (lines : ℕ) → given reset buses lines result ≡ inputs_of reset buses lines name.now }
     {
         if name.is("reset") {
             InputPort::Reset
@@ -51,14 +54,20 @@ impl InputPort {
             InputPort::DbRspError
         } else if name.is("db_rsp_data") {
             InputPort::DbRspData
+        } else if name.is("irq_software") {
+            InputPort::IrqSoftware
+        } else if name.is("irq_timer") {
+            InputPort::IrqTimer
+        } else if name.is("irq_external") {
+            InputPort::IrqExternal
         } else {
             InputPort::Zero
         }
     }
 
     /// The value of the input in a cycle.
-    fn value(self, reset: u64, buses: &BusIn) -> u64
-        ensures { result ≡ given reset buses.now self }
+    fn value(self, reset: u64, buses: &BusIn, lines: u32) -> u64
+        ensures { result ≡ given reset buses.now lines self }
     {
         match self {
             InputPort::Reset => reset,
@@ -70,6 +79,9 @@ impl InputPort {
             InputPort::DbRspValid => u64::from(buses.db_rsp_valid),
             InputPort::DbRspError => u64::from(buses.db_rsp_error),
             InputPort::DbRspData => u64::from(buses.db_rsp_data),
+            InputPort::IrqSoftware => u64::from(lines / 8 % 2),
+            InputPort::IrqTimer => u64::from(lines / 128 % 2),
+            InputPort::IrqExternal => u64::from(lines / 2048 % 2),
             InputPort::Zero => 0,
         }
     }
@@ -77,7 +89,7 @@ impl InputPort {
 
 /// What drives each input, in the order of the ports.
 pub fn input_ports(alloc: Global, ports: &[PortDecl]) -> Result<Vec<InputPort>, AllocError>
-    ensures values { IfOk result (λ v. (reset : ℕ) (buses : BusIn) → map (given reset buses) v.items ≡ map (inputs_of reset buses) (input_names (plain_ports ports.now))) }
+    ensures values { IfOk result (λ v. (reset : ℕ) (buses : BusIn) (lines : ℕ) → map (given reset buses lines) v.items ≡ map (inputs_of reset buses lines) (input_names (plain_ports ports.now))) }
     ensures len { IfOk result (λ v. vec_len v ≡ length (input_names (plain_ports ports.now))) }
 {
     let mut inputs = Vec::new(alloc);
@@ -90,14 +102,14 @@ pub fn input_ports(alloc: Global, ports: &[PortDecl]) -> Result<Vec<InputPort>, 
 }
 
 /// Gives each input its value in a cycle.
-pub fn drive(inputs: &[InputPort], reset: u64, buses: &BusIn, ins: &mut [u64])
+pub fn drive(inputs: &[InputPort], reset: u64, buses: &BusIn, lines: u32, ins: &mut [u64])
     requires { length ins.old ≡ length inputs.now }
-    ensures { ins.new ≡ map (given reset buses.now) inputs.now }
+    ensures { ins.new ≡ map (given reset buses.now lines) inputs.now }
 {
     let mut rest = inputs;
     let mut at: usize = 0;
     while let [input, more @ ..] = rest {
-        ins[at] = input.value(reset, buses);
+        ins[at] = input.value(reset, buses, lines);
         at += 1;
         rest = more;
     }

@@ -1,4 +1,4 @@
-ghost use Rattle.std.specs.Prelude.{◌≡◌, ◌≤◌, ◌<◌, ◌⊎◌, ℕ, false, Err, IfOk, IfErr, List, [], OnErr, OnOk, length, vec_capacity, vec_len};
+ghost use Rattle.std.specs.Prelude.{All, ◌≡◌, ◌≤◌, ◌<◌, ◌⊎◌, ℕ, false, Err, IfOk, IfErr, List, [], OnErr, OnOk, length, vec_capacity, vec_len};
 ghost use Rattle.core_host.specs.declared.host.Port.{Port};
 ghost use Rattle.core_host.specs.declared.host.Port.TheVariants.{Main};
 ghost use Rattle.core_host.specs.Outside.{Rose, Appends, IsCut};
@@ -7,14 +7,17 @@ ghost use Rattle.verilog_mean.specs.Checked.{IsChecked};
 ghost use Rattle.verilog_mean.specs.CorePorts.{HasCorePorts};
 ghost use Rattle.verilog_mean.specs.Erase.{plain_tree};
 ghost use Rattle.verilog_mean.specs.Plain.{Plain};
+ghost use Rattle.verilog_mean.specs.Cycle.{State};
+ghost use Rattle.verilog_mean.specs.Zero.{zero_state};
 ghost use Rattle.core_sim.specs.Bench.{IsBench, IsCore, IsReady, end_with, shown};
 ghost use Rattle.core_sim.specs.Pending.{IsKept};
 ghost use Rattle.core_sim.specs.Joint.{joint_start, run_of};
 ghost use Rattle.core_sim.specs.Ends.{end_of, run_text};
 ghost use Rattle.core_sim.specs.Over.{IsOverBuses};
+ghost use Rattle.core_sim.specs.Spans.{IsSpan, line_in, lines_of};
 
 use crate::bench::Bench;
-use crate::ended::{Ended, RunOpts, SimRefusal};
+use crate::ended::{Ended, IrqSpan, RunOpts, SimRefusal};
 use crate::event::Event;
 use crate::line::line_of;
 use crate::pending::Pending;
@@ -23,10 +26,10 @@ use core_host::{Host, HostFailed, Port, push_all};
 use std::alloc::Global;
 use verilog_mean::Checked;
 
-/// Runs a core over buses that answer as this memory, from contents that are all 0, until the program asks for its
-/// end, an event stops the core, or its cycles have passed. Pushes the host text on the main port, or the lines of the
-/// events where they are wanted. All memory is taken before the first cycle, a byte for each cycle among it where the
-/// host text is pushed.
+/// Runs a core over buses that answer as this memory, from contents that are all 0 and with interrupt lines in spans,
+/// until the program asks for its end, an event stops the core, or its cycles have passed. Pushes the host text on the
+/// main port, or the lines of the events where they are wanted. All memory is taken before the first cycle, a byte for
+/// each cycle among it where the host text is pushed.
 pub fn run_tree<H: Host>(
     alloc: Global,
     checked: &Checked,
@@ -37,15 +40,16 @@ pub fn run_tree<H: Host>(
     requires checked { IsChecked checked.now }
     requires ports { HasCorePorts (plain_tree checked.now.tree) }
     requires delays { 0 < length opts.now.delays }
-    ensures end { IfOk result (λ e. e ≡ end_of (run_of (plain_tree checked.now.tree) mem opts.now.delays) opts.now.cycles) }
+    requires spans { All IsSpan opts.now.irqs }
+    ensures end { IfOk result (λ e. e ≡ end_of (run_of (plain_tree checked.now.tree) (zero_state (plain_tree checked.now.tree)) mem opts.now.delays (lines_of opts.now.irqs)) opts.now.cycles) }
     ensures text { OnOk result (Appends (H.pushed host.old Main)
-        (run_text opts.now.trace (run_of (plain_tree checked.now.tree) mem opts.now.delays) opts.now.cycles) (H.pushed host.new Main)) }
+        (run_text opts.now.trace (run_of (plain_tree checked.now.tree) (zero_state (plain_tree checked.now.tree)) mem opts.now.delays (lines_of opts.now.irqs)) opts.now.cycles) (H.pushed host.new Main)) }
     ensures cut { result ≡ Err SimRefusal.WriteFault → IsCut (H.pushed host.old Main)
-        (run_text opts.now.trace (run_of (plain_tree checked.now.tree) mem opts.now.delays) opts.now.cycles) (H.pushed host.new Main) }
+        (run_text opts.now.trace (run_of (plain_tree checked.now.tree) (zero_state (plain_tree checked.now.tree)) mem opts.now.delays (lines_of opts.now.irqs)) opts.now.cycles) (H.pushed host.new Main) }
     ensures cause { result ≡ Err SimRefusal.WriteFault → Rose (H.write_faults host.old) (H.write_faults host.new) }
     ensures empty { result ≡ Err SimRefusal.NoMemory → H.pushed host.new Main ≡ H.pushed host.old Main }
     ensures refusals { IfErr result (λ r. (r ≡ SimRefusal.WriteFault) ⊎ (r ≡ SimRefusal.NoMemory)) }
-    ensures over { ¬ (result ≡ Err SimRefusal.NoMemory) → IsOverBuses (plain_tree checked.now.tree) mem opts.now.delays }
+    ensures over { ¬ (result ≡ Err SimRefusal.NoMemory) → IsOverBuses (plain_tree checked.now.tree) (zero_state (plain_tree checked.now.tree)) mem opts.now.delays (lines_of opts.now.irqs) }
     ensures others { (p : Port) → ¬ (p ≡ Main) → H.pushed host.new p ≡ H.pushed host.old p }
     ensures left { (m : ℕ) → H.left host.new m ≡ H.left host.old m }
     ensures files { H.files host.new ≡ H.files host.old }
@@ -64,7 +68,15 @@ pub fn run_tree<H: Host>(
         Ok(pending) => pending,
         Err(_) => return Err(SimRefusal::NoMemory),
     };
-    match run_cycles(&mut bench, &mut pending, opts.trace, opts.cycles, host) {
+    let irqs = opts.irqs.items().as_slice();
+    match run_cycles(
+        &mut bench,
+        &mut pending,
+        opts.trace,
+        opts.cycles,
+        irqs,
+        host,
+    ) {
         Ok(end) => Ok(end),
         Err(_) => Err(SimRefusal::WriteFault),
     }
@@ -76,18 +88,20 @@ fn run_cycles<H: Host>(
     pending: &mut Pending,
     trace: bool,
     cycles: u64,
+    irqs: &[IrqSpan],
     host: &mut H,
 ) -> Result<Ended, HostFailed>
+    requires spans { All IsSpan irqs.now }
     requires ready { IsReady bench.old }
     requires empty { IsKept trace [] pending.old }
     requires none { vec_len pending.old.bytes ≡ 0 }
     requires room { trace ≡ false → cycles ≤ vec_capacity pending.old.bytes }
-    ensures end { IfOk result (λ e. (m : Plain) (memory : Memory) (delays : List ℕ) → IsCore m → IsBench m (joint_start m memory delays) bench.old
-        → e ≡ end_of (run_of m memory delays) cycles) }
-    ensures whole { OnOk result ((m : Plain) (memory : Memory) (delays : List ℕ) → IsCore m → IsBench m (joint_start m memory delays) bench.old
-        → Appends (H.pushed host.old Main) (run_text trace (run_of m memory delays) cycles) (H.pushed host.new Main)) }
-    ensures part { OnErr result ((m : Plain) (memory : Memory) (delays : List ℕ) → IsCore m → IsBench m (joint_start m memory delays) bench.old
-        → IsCut (H.pushed host.old Main) (run_text trace (run_of m memory delays) cycles) (H.pushed host.new Main)) }
+    ensures end { IfOk result (λ e. (m : Plain) (contents : State) (memory : Memory) (delays : List ℕ) → IsCore m → IsBench m (joint_start contents memory delays) bench.old
+        → e ≡ end_of (run_of m contents memory delays (lines_of irqs.now)) cycles) }
+    ensures whole { OnOk result ((m : Plain) (contents : State) (memory : Memory) (delays : List ℕ) → IsCore m → IsBench m (joint_start contents memory delays) bench.old
+        → Appends (H.pushed host.old Main) (run_text trace (run_of m contents memory delays (lines_of irqs.now)) cycles) (H.pushed host.new Main)) }
+    ensures part { OnErr result ((m : Plain) (contents : State) (memory : Memory) (delays : List ℕ) → IsCore m → IsBench m (joint_start contents memory delays) bench.old
+        → IsCut (H.pushed host.old Main) (run_text trace (run_of m contents memory delays (lines_of irqs.now)) cycles) (H.pushed host.new Main)) }
     ensures cause { OnErr result (Rose (H.write_faults host.old) (H.write_faults host.new)) }
     ensures others { (p : Port) → ¬ (p ≡ Main) → H.pushed host.new p ≡ H.pushed host.old p }
     ensures left { (m : ℕ) → H.left host.new m ≡ H.left host.old m }
@@ -99,7 +113,7 @@ fn run_cycles<H: Host>(
 {
     let mut events: u64 = 0;
     for cycle in 0..cycles {
-        let told = bench.cycle(cycle);
+        let told = bench.cycle(cycle, lines_in(irqs, cycle));
         push_told(host, trace, told.event, pending.bytes.as_slice())?;
         events += u64::from(told.event.is_some());
         if let Some(end) = end_with(told.event, pending.code, events, cycle + 1) {
@@ -108,6 +122,33 @@ fn run_cycles<H: Host>(
         pending.pass(trace, &told);
     }
     Ok(Ended::CyclesEnded { events, cycles })
+}
+
+/// The interrupt lines in a cycle, as a number with bits 3, 7 and 11.
+fn lines_in(irqs: &[IrqSpan], cycle: u64) -> u32
+    requires { All IsSpan irqs.now }
+    ensures { result ≡ lines_of irqs.now cycle }
+{
+    match irqs {
+        [] => 0,
+        [span, rest @ ..] => line_in(*span, cycle) | lines_in(rest, cycle),
+    }
+}
+
+/// What a span makes of the lines in a cycle: its line's bit in its cycles, and else 0.
+fn line_in(span: IrqSpan, cycle: u64) -> u32
+    requires { IsSpan span }
+    ensures { result ≡ line_in span cycle }
+{
+    if span.from <= cycle && cycle <= span.to {
+        match span.line {
+            3 => 0x8,
+            7 => 0x80,
+            _other => 0x800,
+        }
+    } else {
+        0
+    }
 }
 
 /// How a run ends with this event, if it does, where this exit is pending. The counts are those at the end of the

@@ -8,7 +8,7 @@ use Rattle.core_sim.proofs.ports.input_ports.Given as goal
 
 abbrev pub invariant-loop-port : goal.invariant-loop-port
 invariant-loop-port l = record {
-  values : (reset : ℕ) (buses : BusIn) → map (given reset buses) l.inputs.items ++ map (inputs_of reset buses) (input_names (plain_ports (drop l.port-index l.ports)))
-      ≡ map (inputs_of reset buses) (input_names (plain_ports l.ports));
+  values : (reset : ℕ) (buses : BusIn) (lines : ℕ) → map (given reset buses lines) l.inputs.items ++ map (inputs_of reset buses lines) (input_names (plain_ports (drop l.port-index l.ports)))
+      ≡ map (inputs_of reset buses lines) (input_names (plain_ports l.ports));
   len : vec_len l.inputs + length (input_names (plain_ports (drop l.port-index l.ports))) ≡ length (input_names (plain_ports l.ports));
 }

@@ -3,7 +3,9 @@ use Rattle.std.specs.Prelude.{vec_capacity, vec_len}
 use Rattle.core_host.specs.declared.host.Port.{Port}
 use Rattle.core_host.specs.declared.host.Port.TheVariants.{Main}
 use Rattle.bus_law.specs.Memory.{Memory}
+use Rattle.verilog_mean.specs.Cycle.{State}
 use Rattle.verilog_mean.specs.Plain.{Plain}
+use Rattle.core_sim.specs.Spans.{lines_of}
 use Rattle.core_sim.specs.Joint.{joint_at, joint_start, run_of}
 use Rattle.core_sim.specs.Bench.{IsBench, IsCore, IsReady}
 use Rattle.core_sim.specs.Ends.{unsettled}
@@ -15,12 +17,12 @@ abbrev pub invariant-loop-cycle : goal.invariant-loop-cycle
 invariant-loop-cycle g l = record {
   ready : IsReady l.bench;
   few : l.events ≤ l.cycle;
-  bench : (m : Plain) (memory : Memory) (delays : List ℕ) → IsCore m → IsBench m (joint_start m memory delays) l.initial.bench
-      → IsBench m (joint_at m memory delays l.cycle) l.bench;
-  at : (m : Plain) (memory : Memory) (delays : List ℕ) → IsCore m → IsBench m (joint_start m memory delays) l.initial.bench
-      → IsAt (run_of m memory delays) l.trace l.cycles l.cycle l.events (g.H.Host.pushed l.initial.host Main) (g.H.Host.pushed l.host Main);
-  kept : (m : Plain) (memory : Memory) (delays : List ℕ) → IsCore m → IsBench m (joint_start m memory delays) l.initial.bench
-      → IsKept l.trace (unsettled (run_of m memory delays) l.cycle) l.pending;
+  bench : (m : Plain) (contents : State) (memory : Memory) (delays : List ℕ) → IsCore m → IsBench m (joint_start contents memory delays) l.initial.bench
+      → IsBench m (joint_at m contents memory delays (lines_of l.irqs) l.cycle) l.bench;
+  at : (m : Plain) (contents : State) (memory : Memory) (delays : List ℕ) → IsCore m → IsBench m (joint_start contents memory delays) l.initial.bench
+      → IsAt (run_of m contents memory delays (lines_of l.irqs)) l.trace l.cycles l.cycle l.events (g.H.Host.pushed l.initial.host Main) (g.H.Host.pushed l.host Main);
+  kept : (m : Plain) (contents : State) (memory : Memory) (delays : List ℕ) → IsCore m → IsBench m (joint_start contents memory delays) l.initial.bench
+      → IsKept l.trace (unsettled (run_of m contents memory delays (lines_of l.irqs)) l.cycle) l.pending;
   len : vec_len l.pending.bytes ≤ l.cycle;
   room : l.trace ≡ false → l.cycles ≤ vec_capacity l.pending.bytes;
   others : (p : Port) → ¬ (p ≡ Main) → g.H.Host.pushed l.host p ≡ g.H.Host.pushed l.initial.host p;
