@@ -10,9 +10,7 @@ use Rattle.verilog_tree.specs.declared.tree.Tree.{Tree}
 use Rattle.verilog_mean.specs.Erase.{plain_tree}
 use Rattle.core_sim.specs.declared.ended.Ended.{Ended}
 use Rattle.core_sim.specs.declared.ended.Ended.TheVariants as run_end
-use Rattle.core_sim.specs.Joint.{run_of}
 use Rattle.core_sim.specs.Ends.{end_of, run_text}
-use Rattle.core_sim.specs.Over.{IsOverBuses}
 use Rattle.core_tool.specs.declared.ends.CallEnd.{CallEnd}
 use Rattle.core_tool.specs.declared.ends.CallEnd.TheVariants.{Written, Accepted, BadWords, Refused, RulesRefused, BadFile, BadImage, OutOfMemory, Unwritten, Exited, CyclesEnded, Stopped}
 use Rattle.core_tool.specs.declared.options.Options.{Options}
@@ -20,7 +18,7 @@ use Rattle.core_tool.specs.Words.{Form, Gen, Run, Rules}
 use Rattle.core_tool.specs.Call.{Boxes, Call, Outside, Seen}
 use Rattle.core_tool.specs.Boxes.{AreUntouched, HaveTakenAll, HaveTakenSome, TriesRules}
 use Rattle.core_tool.specs.Files.{Gives, Passes, config_name, image_name}
-use Rattle.core_tool.specs.CoreRun.{IsCoreText, IsTreeOfCore}
+use Rattle.core_tool.specs.CoreRun.{IsCoreText, IsOverRun, IsTreeOfCore, run_with}
 use Rattle.core_tool.specs.Texts.{IsRunText, IsTextFor}
 use Rattle.core_tool.specs.Parts.{ForBytes, IsConfigEnd, IsImageEnd, IsJudged, IsLoaded, IsSimulated}
 use Rattle.core_tool.specs.Ends.{IsEnd}
@@ -100,7 +98,7 @@ taken_some boxes config t =
 
 -- the boxes of a core took their entries
 pub core_taken : {B : Type 0} (boxes : Boxes B) (config : Config) (text : List ℕ) → IsCoreText boxes config text → HaveTakenAll boxes config
-core_taken boxes config text core = record { plan = core.plan; accepted = core.accepted; configured = core.configured }
+core_taken boxes config text core = record { plan = core.plan; accepted = core.accepted; configured = core.configured; shaped = core.shaped }
 
 -- so the command passes where the core's tree is read
 pub tree_passes : {B : Type 0} (call : Call B) (config : Config) (t : Tree) → TriesRules call.form → Gives call config → IsTreeOfCore call.boxes config t → Passes call config
@@ -207,11 +205,11 @@ set_up call image config t m tries given core loaded is_memory =
 
 -- the text of that run
 abbrev set_text : Options → Tree → Memory → List ℕ
-set_text options t m = run_text options.trace (run_of (plain_tree t) m (options.wait ∷ [])) options.cycles
+set_text options t m = run_text options.trace (run_with (plain_tree t) m options) options.cycles
 
 run_text_of : {B : Type 0} (call : Call B) (image : List ℕ) (options : Options) (config : Config) (t : Tree) (m : Memory) (ended : Ended)
-    → IsSetUp call image config t m → ended ≡ end_of (run_of (plain_tree t) m (options.wait ∷ [])) options.cycles
-    → IsOverBuses (plain_tree t) m (options.wait ∷ []) → IsRunText call image options ended (set_text options t m)
+    → IsSetUp call image config t m → ended ≡ end_of (run_with (plain_tree t) m options) options.cycles
+    → IsOverRun (plain_tree t) m options → IsRunText call image options ended (set_text options t m)
 run_text_of call image options config t m ended set ends over = record {
   config = config;
   passes = set.passes;
@@ -262,7 +260,7 @@ module _ {B : Type 0} (name image : List ℕ) (options : Options) (files : Optio
   }
   run_ends config t m before mid Unwritten set same less h = record {
     text = set_text options t m;
-    may_be = inr (end_of (run_of (plain_tree t) m (options.wait ∷ [])) options.cycles, run_text_of run_call image options config t m _ set refl h.over);
+    may_be = inr (end_of (run_with (plain_tree t) m options) options.cycles, run_text_of run_call image options config t m _ set refl h.over);
     main = subst (λ p. IsCut p (set_text options t m) new.main) same h.text;
     is_line = refl;
     failed = Rose-earlier old.write_faults mid new.write_faults less h.rose;

@@ -32,9 +32,10 @@ use Rattle.core_sim.specs.Ends.{code_in, cycles_of, end_of, lines_before, run_te
 use Rattle.core_sim.specs.Output.{exit_of, output_of}
 use Rattle.core_sim.proofs.Agree.{agree}
 use Rattle.core_sim.specs.Over.{IsOverBuses}
+use Rattle.core_sim.specs.Spans.{lines_of}
 use Rattle.core_tool.specs.declared.options.Options.{Options}
 use Rattle.core_tool.specs.Call.{Boxes}
-use Rattle.core_tool.specs.CoreRun.{IsCoreRun, IsCoreText, IsTreeOfCore, bytes_with, memory_of, run_over, set_of}
+use Rattle.core_tool.specs.CoreRun.{IsCoreRun, IsCoreText, IsOverRun, IsTreeOfCore, bytes_with, memory_of, run_over, run_with, set_of}
 
 -- ---- memory
 
@@ -83,10 +84,10 @@ never_cut room text old new e short (k, less, part) notes rose whole =
 
 -- the same text
 pub same_text : {B : Type 0} {kind : B → List ℕ} {taken : B → Option PlugEntry} {now : B → PlugSpec} {fault : B → PlugEntry → Option ParamFault} {spec : B → PlugEntry → PlugSpec}
-    {test : B → Plan → Part → Type 0} {old new : List B} {config : Config} (text text' : List ℕ) → text' ≡ text
-    → IsGenerated kind taken now fault spec test old new config text → IsGenerated kind taken now fault spec test old new config text'
-same_text {kind = kind} {taken = taken} {now = now} {fault = fault} {spec = spec} {test = test} {old = old} {new = new} {config = config} text text' same core =
-    subst (λ l. IsGenerated kind taken now fault spec test old new config l) (sym same) core
+    {test : B → Plan → Part → Type 0} {test_for : B → PlugEntry → Plan → Part → Type 0} {old new : List B} {config : Config} (text text' : List ℕ) → text' ≡ text
+    → IsGenerated kind taken now fault spec test test_for old new config text → IsGenerated kind taken now fault spec test test_for old new config text'
+same_text {kind = kind} {taken = taken} {now = now} {fault = fault} {spec = spec} {test = test} {test_for = test_for} {old = old} {new = new} {config = config} text text' same core =
+    subst (λ l. IsGenerated kind taken now fault spec test test_for old new config l) (sym same) core
 
 -- what is read of a core's text is its tree
 pub core_tree : {B : Type 0} (boxes : Boxes B) (config : Config) (text : List ℕ) (t : Tree) → IsCoreText boxes config text → Reads text t → IsTreeOfCore boxes config t
@@ -115,32 +116,32 @@ all_zero n xs l zeros =
     let same : length xs ≡ length (replicate n 0) = l ∙ sym (length-replicate n 0) in
     ext_get_or 0 xs (replicate n 0) same (λ i less. zeros i 0 less ∙ sym (get_or-replicate n i 0 0 (omega (arith, l, less))))
 
-follows_zeros : (t : Plain) (s : Set) (reset_pc : ℕ) (claim : Claim s) (m : Memory) (delays : List ℕ) → RefinesWith t s reset_pc claim → IsMemory m → IsOverBuses t m delays
-    → (n : ℕ) → Follows s (machine_from s (replicate 32 0) reset_pc m) (run_of t m delays) n
-follows_zeros t s reset_pc claim m delays refines is_memory over n =
+follows_zeros : (t : Plain) (s : Set) (reset_pc : ℕ) (claim : Claim s) (m : Memory) (delays : List ℕ) (lines : ℕ → ℕ) → RefinesWith t s reset_pc claim → IsMemory m → IsOverBuses t (zero_state t) m delays lines
+    → (n : ℕ) → Follows s (machine_from s (replicate 32 0) reset_pc m) (run_of t (zero_state t) m delays lines) n
+follows_zeros t s reset_pc claim m delays lines refines is_memory over n =
     let from = refines.from (zero_state t) over.start in
     let zeros : from.regs ≡ replicate 32 0 = all_zero 32 from.regs from.all (from.zeros over.zeros) in
-    subst (λ regs. Follows s (machine_from s regs reset_pc m) (run_of t m delays) n) zeros
-    (from.follows (run_inputs t m delays) over.inputs m is_memory n (over.honest n)).0
+    subst (λ regs. Follows s (machine_from s regs reset_pc m) (run_of t (zero_state t) m delays lines) n) zeros
+    (from.follows (run_inputs t (zero_state t) m delays lines) over.inputs m is_memory n (over.honest n)).0
 
 -- the run of a core's tree follows the machine of its plan's instructions
-core_follows : {B : Type 0} (boxes : Boxes B) (config : Config) (t : Tree) (core : IsTreeOfCore boxes config t) (m : Memory) (delays : List ℕ)
-    → IsMemory m → IsOverBuses (plain_tree t) m delays → (n : ℕ)
-    → Follows (set_of core.core.plan) (machine_from (set_of core.core.plan) (replicate 32 0) config.shape.reset_pc m) (run_of (plain_tree t) m delays) n
-core_follows boxes config t core m delays is_memory over n =
+core_follows : {B : Type 0} (boxes : Boxes B) (config : Config) (t : Tree) (core : IsTreeOfCore boxes config t) (m : Memory) (delays : List ℕ) (lines : ℕ → ℕ)
+    → IsMemory m → IsOverBuses (plain_tree t) (zero_state (plain_tree t)) m delays lines → (n : ℕ)
+    → Follows (set_of core.core.plan) (machine_from (set_of core.core.plan) (replicate 32 0) config.shape.reset_pc m) (run_of (plain_tree t) (zero_state (plain_tree t)) m delays lines) n
+core_follows boxes config t core m delays lines is_memory over n =
     let plan = core.core.plan in
     let whole = core.core.core.core in
     let same = core.is_tree in
-    subst (λ (shape : CoreShape). Follows (set_of plan) (machine_from (set_of plan) (replicate 32 0) shape.reset_pc m) (run_of (plain_tree t) m delays) n)
+    subst (λ (shape : CoreShape). Follows (set_of plan) (machine_from (set_of plan) (replicate 32 0) shape.reset_pc m) (run_of (plain_tree t) (zero_state (plain_tree t)) m delays lines) n)
     core.core.accepted.plan_is.shape_is
-    (subst (λ (u : Tree). Follows (set_of plan) (machine_from (set_of plan) (replicate 32 0) plan.shape.reset_pc m) (run_of (plain_tree u) m delays) n) same
-    (follows_zeros (plain_tree whole.tree) (set_of plan) plan.shape.reset_pc _ m delays whole.refines is_memory
-    (subst (λ (u : Tree). IsOverBuses (plain_tree u) m delays) (sym same) over) n))
+    (subst (λ (u : Tree). Follows (set_of plan) (machine_from (set_of plan) (replicate 32 0) plan.shape.reset_pc m) (run_of (plain_tree u) (zero_state (plain_tree u)) m delays lines) n) same
+    (follows_zeros (plain_tree whole.tree) (set_of plan) plan.shape.reset_pc _ m delays lines whole.refines is_memory
+    (subst (λ (u : Tree). IsOverBuses (plain_tree u) (zero_state (plain_tree u)) m delays lines) (sym same) over) n))
 
 pub core_run : {B : Type 0} (boxes : Boxes B) (config : Config) (image : List ℕ) (options : Options) (t : Tree) (m : Memory) (ended : Ended) → IsTreeOfCore boxes config t
     → m ≡ memory_of config.mem image → IsMemory m
-    → ended ≡ end_of (run_of (plain_tree t) m (options.wait ∷ [])) options.cycles → IsOverBuses (plain_tree t) m (options.wait ∷ [])
-    → IsCoreRun boxes config image options ended (run_text options.trace (run_of (plain_tree t) m (options.wait ∷ [])) options.cycles)
+    → ended ≡ end_of (run_with (plain_tree t) m options) options.cycles → IsOverRun (plain_tree t) m options
+    → IsCoreRun boxes config image options ended (run_text options.trace (run_with (plain_tree t) m options) options.cycles)
 core_run boxes config image options t m ended core same is_memory ends over = record {
   tree = t;
   core = core;
@@ -152,12 +153,12 @@ core_run boxes config image options t m ended core same is_memory ends over = re
 }
   where
     ends_so : ended ≡ end_of (run_over t config.mem image options) options.cycles
-    ends_so = ends ∙ ap (λ m. end_of (run_of (plain_tree t) m (options.wait ∷ [])) options.cycles) same
+    ends_so = ends ∙ ap (λ m. end_of (run_with (plain_tree t) m options) options.cycles) same
 
-    lines_so : run_text options.trace (run_of (plain_tree t) m (options.wait ∷ [])) options.cycles ≡ run_text options.trace (run_over t config.mem image options) options.cycles
-    lines_so = ap (λ m. run_text options.trace (run_of (plain_tree t) m (options.wait ∷ [])) options.cycles) same
+    lines_so : run_text options.trace (run_with (plain_tree t) m options) options.cycles ≡ run_text options.trace (run_over t config.mem image options) options.cycles
+    lines_so = ap (λ m. run_text options.trace (run_with (plain_tree t) m options) options.cycles) same
 
     follows_so : (n : ℕ) → Follows (set_of core.core.plan) (machine_from (set_of core.core.plan) (replicate 32 0) config.shape.reset_pc (memory_of config.mem image))
         (run_over t config.mem image options) n
-    follows_so n = subst (λ m. Follows (set_of core.core.plan) (machine_from (set_of core.core.plan) (replicate 32 0) config.shape.reset_pc m) (run_of (plain_tree t) m (options.wait ∷ [])) n) same
-        (core_follows boxes config t core m (options.wait ∷ []) is_memory over n)
+    follows_so n = subst (λ m. Follows (set_of core.core.plan) (machine_from (set_of core.core.plan) (replicate 32 0) config.shape.reset_pc m) (run_with (plain_tree t) m options) n) same
+        (core_follows boxes config t core m (options.wait ∷ []) (lines_of options.irqs.items) is_memory over n)

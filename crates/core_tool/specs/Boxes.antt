@@ -3,7 +3,7 @@ use Rattle.std.specs.Prelude.{◌≡◌, Option, Some, None, length}
 use Rattle.stage_map.specs.declared.config.Config.{Config}
 use Rattle.plug_api.specs.declared.spec.Plan.{Plan}
 use Rattle.plug_api.specs.declared.refusal.RuleRefusal.{RuleRefusal}
-use Rattle.plug_api.specs.Picks.{AreConfigured, SameKinds}
+use Rattle.plug_api.specs.Picks.{AreConfigured, AreShaped, SameKinds}
 use Rattle.plug_api.specs.Accept.{IsAccepted, IsFirstRefusal, IsLeft, IsLeftShort}
 use Rattle.core_tool.specs.Words.{Form, Gen, Run, Rules}
 use Rattle.core_tool.specs.Call.{Boxes}
@@ -24,11 +24,13 @@ Refuse boxes config refusal = IsFirstRefusal boxes.kind boxes.fault boxes.spec b
 abbrev pub AreUntouched : {B : Type 0} → Boxes B → Type 0
 AreUntouched boxes = boxes.new ≡ boxes.old
 
--- the configuration is accepted, the boxes of its entries took them, and every other box is as it was
+-- the configuration is accepted, the boxes of its entries took them and the tests of their parts are those of these entries, and every other
+-- box is as it was
 pub record HaveTakenAll {B : Type 0} (boxes : Boxes B) (config : Config) : Type 0 where
   pub plan : Plan
   pub accepted : IsAccepted boxes.kind boxes.fault boxes.spec boxes.old config plan
   pub configured : AreConfigured boxes.kind boxes.taken boxes.now boxes.fault boxes.spec boxes.old boxes.new plan.picks config.entries (length config.entries)
+  pub shaped : AreShaped boxes.builds boxes.builds_for boxes.old boxes.new plan.picks config.entries (length config.entries)
 
 -- where a rule refuses the configuration: the boxes of the entries before the refusal of rule 3 took them, those of all entries
 -- where a later rule fails, and none where an earlier one does

@@ -25,8 +25,8 @@ pub record Outside : Type 0 where
   pub write_faults : ℕ
 
 -- The boxes of plug-ins before and after a call, and what can be told of a box: the name of its kind, the entry that it took last,
--- what it says of itself now, the first fault of an entry, what it says of itself once it took an entry, and the test of the part that
--- it builds for a plan.
+-- what it says of itself now, the first fault of an entry, what it says of itself once it took an entry, the test of the part that
+-- it builds for a plan, and that test once it took an entry.
 pub record Boxes (B : Type 0) : Type 1 where
   pub kind : B → List ℕ
   pub taken : B → Option PlugEntry
@@ -34,6 +34,7 @@ pub record Boxes (B : Type 0) : Type 1 where
   pub fault : B → PlugEntry → Option ParamFault
   pub spec : B → PlugEntry → PlugSpec
   pub builds : B → Plan → Part → Type 0
+  pub builds_for : B → PlugEntry → Plan → Part → Type 0
   pub old : List B
   pub new : List B
 
@@ -79,6 +80,7 @@ boxes_of members old new = record {
   fault = λ b e. (members b.vtable).first_fault b.value e;
   spec = λ b e. (members b.vtable).spec_taken b.value e;
   builds = λ b plan part. (members b.vtable).builds b.value plan part;
+  builds_for = λ b e plan part. (members b.vtable).builds_for b.value e plan part;
   old = old.items;
   new = new.items;
 }

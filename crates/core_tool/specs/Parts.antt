@@ -10,9 +10,7 @@ use Rattle.verilog_mean.specs.Plain.{Plain}
 use Rattle.verilog_mean.specs.Sound.{IsSound}
 use Rattle.core_sim.specs.declared.ended.Ended.{Ended}
 use Rattle.core_sim.specs.declared.ended.Ended.TheVariants as run_end
-use Rattle.core_sim.specs.Joint.{run_of}
 use Rattle.core_sim.specs.Ends.{end_of, run_text}
-use Rattle.core_sim.specs.Over.{IsOverBuses}
 use Rattle.core_tool.specs.declared.ends.CallEnd.{CallEnd}
 use Rattle.core_tool.specs.declared.ends.CallEnd.TheVariants.{Refused, RulesRefused, BadFile, BadImage, OutOfMemory, Unwritten, Exited, CyclesEnded, Stopped}
 use Rattle.core_tool.specs.declared.options.Options.{Options}
@@ -22,7 +20,7 @@ use Rattle.core_tool.specs.Lines.{refusal_line}
 use Rattle.core_tool.specs.Call.{Boxes}
 use Rattle.core_tool.specs.Boxes.{HaveTakenBefore, HaveTakenSome, Refuse}
 use Rattle.core_tool.specs.Files.{IsFile, PulledUnlessFault, image_fault}
-use Rattle.core_tool.specs.CoreRun.{memory_of}
+use Rattle.core_tool.specs.CoreRun.{IsOverRun, memory_of, run_with}
 
 -- the file of that name is not read
 abbrev pub IsUnreadFile : (name : List ℕ) → Option Files → (before now : ℕ) → Type 0
@@ -86,14 +84,14 @@ IsImageEnd name files mem before now other = ⊥
 
 -- a run of a tree ended so, and its text is pushed whole
 pub record IsRunOf (t : Plain) (m : Memory) (options : Options) (main main' : Option (List ℕ)) (ended : Ended) : Type 0 where
-  pub ends : ended ≡ end_of (run_of t m (options.wait ∷ [])) options.cycles
-  pub text : Appends main (run_text options.trace (run_of t m (options.wait ∷ [])) options.cycles) main'
-  pub over : IsOverBuses t m (options.wait ∷ [])
+  pub ends : ended ≡ end_of (run_with t m options) options.cycles
+  pub text : Appends main (run_text options.trace (run_with t m options) options.cycles) main'
+  pub over : IsOverRun t m options
 
 -- the text of a run of a tree is cut off by a failed push
 pub record IsCutRunOf (t : Plain) (m : Memory) (options : Options) (main main' : Option (List ℕ)) (before now : ℕ) : Type 0 where
-  pub text : IsCut main (run_text options.trace (run_of t m (options.wait ∷ [])) options.cycles) main'
-  pub over : IsOverBuses t m (options.wait ∷ [])
+  pub text : IsCut main (run_text options.trace (run_with t m options) options.cycles) main'
+  pub over : IsOverRun t m options
   pub rose : Rose before now
 
 -- the end of a call that ran a tree over a memory

@@ -1,7 +1,8 @@
 -- The forms of the words of a call.
-use Rattle.std.specs.Prelude.{ℕ, nat_eq, List, [], ◌∷◌, map, Option, Some, None, option_map, Bool, false, not, ◌&&◌, if◌then◌else◌, codes, String, Vec, string_bytes}
+use Rattle.std.specs.Prelude.{All, ℕ, nat_eq, List, [], ◌∷◌, map, Option, Some, None, option_map, Bool, false, not, ◌&&◌, if◌then◌else◌, codes, String, Vec, string_bytes}
 use Rattle.std.specs.declared.alloc.Global.{Global}
 use Rattle.std.specs.Cmp.Lexicographic.{pointwise}
+use Rattle.core_sim.specs.Spans.{IsSpan}
 use Rattle.core_tool.specs.declared.options.Options.{Options}
 use Rattle.core_tool.specs.declared.words.Form.{Form as FormValue}
 use Rattle.core_tool.specs.declared.words.Form.TheVariants as value
@@ -43,6 +44,12 @@ form_of (command ∷ words) = if pointwise nat_eq command (codes "gen") then gen
 -- the bytes of the words
 abbrev pub words_of : Vec (String Global) Global → List (List ℕ)
 words_of words = map string_bytes words.items
+
+-- the spans of a run's options are of interrupt lines
+abbrev pub HasSpans : FormValue → Type 0
+HasSpans (value.Gen name) = Unit {0}
+HasSpans (value.Run config image options) = All IsSpan options.irqs.items
+HasSpans (value.Rules name) = Unit {0}
 
 -- the form that a value stands for
 abbrev pub seen : FormValue → Form

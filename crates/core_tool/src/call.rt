@@ -1,8 +1,9 @@
-ghost use Rattle.std.specs.Prelude.{◌≡◌, ◌≤◌, ◌<◌, ◌^◌, ℕ, Some, IfOk, IfErr, length};
+ghost use Rattle.std.specs.Prelude.{All, ◌≡◌, ◌≤◌, ◌<◌, ◌^◌, ℕ, Some, IfOk, IfErr, length};
 ghost use Rattle.core_host.specs.declared.host.Port.{Port};
 ghost use Rattle.core_host.specs.declared.host.Port.TheVariants.{Main, Notes};
 ghost use Rattle.core_config.specs.Allowed.{IsConfig};
 ghost use Rattle.core_config.specs.Config.{config_of};
+ghost use Rattle.core_sim.specs.Spans.{IsSpan};
 ghost use Rattle.core_tool.specs.Words.{Gen, Rules, Run};
 ghost use Rattle.core_tool.specs.Call.{boxes_of, seen_as, seen_of};
 ghost use Rattle.core_tool.specs.Boxes.{HaveTakenAll, KeepKinds};
@@ -194,6 +195,7 @@ fn run<H: Host>(
     plugs: &mut Vec<Box<dyn Plugin>>,
     host: &mut H,
 ) -> CallEnd
+    requires spans { All IsSpan options.irqs.items }
     requires few { length plugs.old.items < 2 ^ 32 }
     ensures ends { IsEnd (seen_as (Some (Run config_file.now image.now options)) H.Host ⟦<dyn Plugin as Plugin>⟧ plugs.old plugs.new host.old host.new) result }
     ensures pulled { Pulled (seen_as (Some (Run config_file.now image.now options)) H.Host ⟦<dyn Plugin as Plugin>⟧ plugs.old plugs.new host.old host.new) }

@@ -9,6 +9,7 @@ mod options;
 mod ports;
 mod rules;
 mod run;
+mod span;
 mod status;
 mod words;
 

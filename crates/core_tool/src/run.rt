@@ -1,4 +1,4 @@
-ghost use Rattle.std.specs.Prelude.{◌≡◌, ◌≤◌, ◌<◌, ◌^◌, ◌⊎◌, ℕ, List, Some, length, IfOk, IfErr};
+ghost use Rattle.std.specs.Prelude.{All, ◌≡◌, ◌≤◌, ◌<◌, ◌^◌, ◌⊎◌, ℕ, List, Some, length, IfOk, IfErr};
 ghost use Rattle.core_host.specs.declared.host.Port.{Port};
 ghost use Rattle.core_host.specs.declared.host.Port.TheVariants.{Main};
 ghost use Rattle.bus_law.specs.Memory.{IsMemory};
@@ -8,6 +8,7 @@ ghost use Rattle.verilog_tree.specs.Module.{Reads};
 ghost use Rattle.verilog_mean.specs.Checked.{IsChecked};
 ghost use Rattle.verilog_mean.specs.CorePorts.{HasCorePorts};
 ghost use Rattle.verilog_mean.specs.Erase.{plain_tree};
+ghost use Rattle.core_sim.specs.Spans.{IsSpan};
 ghost use Rattle.core_tool.specs.Call.{boxes_of};
 ghost use Rattle.core_tool.specs.Boxes.{KeepKinds};
 ghost use Rattle.core_tool.specs.CoreRun.{IsCoreText, IsTreeOfCore, memory_of};
@@ -167,6 +168,7 @@ pub fn simulate<H: Host>(
 ) -> CallEnd
     requires checked { IsChecked checked.now }
     requires ports { HasCorePorts (plain_tree checked.now.tree) }
+    requires spans { All IsSpan options.irqs.items }
     ensures ends { IsSimulated (plain_tree checked.now.tree) memory options (H.pushed host.old Main) (H.pushed host.new Main)
         (H.write_faults host.old) (H.write_faults host.new) result }
     ensures others { (p : Port) → ¬ (p ≡ Main) → H.pushed host.new p ≡ H.pushed host.old p }
@@ -181,10 +183,15 @@ pub fn simulate<H: Host>(
         Ok(delays) => delays,
         Err(_) => return CallEnd::OutOfMemory,
     };
+    let irqs = match Vec::from_slice(alloc, options.irqs.as_slice()) {
+        Ok(irqs) => irqs,
+        Err(_) => return CallEnd::OutOfMemory,
+    };
     let opts = RunOpts {
         trace: options.trace,
         cycles: options.cycles,
         delays: List::of(delays),
+        irqs: List::of(irqs),
     };
     match run_tree(alloc, checked, memory, &opts, host) {
         Ok(Ended::CyclesEnded { events, cycles }) => CallEnd::CyclesEnded { events, cycles },

@@ -1,10 +1,10 @@
-ghost use Rattle.std.specs.Prelude.{◌≡◌, map, option_map, string_bytes};
-ghost use Rattle.core_tool.specs.Words.{form_of, gen_of, is_file_name, rules_of, run_of, seen, words_of};
+ghost use Rattle.std.specs.Prelude.{◌≡◌, IfSome, map, option_map, string_bytes};
+ghost use Rattle.core_tool.specs.Words.{HasSpans, form_of, gen_of, is_file_name, rules_of, run_of, seen, words_of};
 
 use crate::options::Options;
 
 /// What the words of a call ask for.
-#[derive(Clone, Copy, Debug)]
+#[derive(Debug, Drop)]
 pub enum Form<'a> {
     /// Write the core of the configuration of this name.
     Gen {
@@ -25,7 +25,8 @@ pub enum Form<'a> {
 impl<'a> Form<'a> {
     /// The form of the words, without the program's name. No other words are a call.
     pub fn of(words: &'a Vec<String>) -> Option<Form<'a>>
-        ensures { option_map seen result ≡ form_of (words_of words.now) }
+        ensures form { option_map seen result ≡ form_of (words_of words.now) }
+        ensures spans { IfSome result (λ f. HasSpans f) }
     {
         match words.as_slice() {
             [] => None,
@@ -45,7 +46,8 @@ impl<'a> Form<'a> {
 
     /// The form of the words behind `gen`.
     fn of_gen(words: &'a [String]) -> Option<Form<'a>>
-        ensures { option_map seen result ≡ gen_of (map string_bytes words.now) }
+        ensures form { option_map seen result ≡ gen_of (map string_bytes words.now) }
+        ensures spans { IfSome result (λ f. HasSpans f) }
     {
         match words {
             [name] if is_name(name.as_str()) => Some(Form::Gen {
@@ -57,7 +59,8 @@ impl<'a> Form<'a> {
 
     /// The form of the words behind `run`.
     fn of_run(words: &'a [String]) -> Option<Form<'a>>
-        ensures { option_map seen result ≡ run_of (map string_bytes words.now) }
+        ensures form { option_map seen result ≡ run_of (map string_bytes words.now) }
+        ensures spans { IfSome result (λ f. HasSpans f) }
     {
         match words {
             [config, image, words @ ..] if is_name(config.as_str()) && is_name(image.as_str()) => {
@@ -74,7 +77,8 @@ impl<'a> Form<'a> {
 
     /// The form of the words behind `rules`.
     fn of_rules(words: &'a [String]) -> Option<Form<'a>>
-        ensures { option_map seen result ≡ rules_of (map string_bytes words.now) }
+        ensures form { option_map seen result ≡ rules_of (map string_bytes words.now) }
+        ensures spans { IfSome result (λ f. HasSpans f) }
     {
         match words {
             [name] if is_name(name.as_str()) => Some(Form::Rules {
