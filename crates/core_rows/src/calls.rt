@@ -2,7 +2,6 @@ use crate::hosts::{config, end_of, host, words};
 use core_host::{MemHost, Port};
 use core_tool::Status;
 use std::alloc::{AllocError, Global};
-use std::test::Fail;
 
 /// ADDI x1, x0, 5; ADDI x2, x1, 7; ADD x3, x1, x2; and a word that is no instruction.
 const IMAGE: [u8; 16] = [
@@ -140,6 +139,22 @@ const USAGE: &[&str] = &[
     "run c i --wait 1001",
     "run c i --wait 1 --trace --wait 1",
     "run c i --trace --trace",
+    "run c i --irq",
+    "run c i --irq timer",
+    "run c i --irq timer@5",
+    "run c i --irq timer@5-",
+    "run c i --irq timer@6-5",
+    "run c i --irq Timer@1-2",
+    "run c i --irq 7@1-2",
+    "run c i --irq timer@1-4294967296",
+    "run c i --irq timer@00000000001-2",
+    "run c i --irq timer@5-6-7",
+    "run c i --irq timer@@5-6",
+    "run c i --irq timer@-1-2",
+    "run c i --irq timer@+1-2",
+    "run c i --irq=timer@1-2",
+    "gen c --irq timer@1-2",
+    "rules c --irq timer@1-2",
     "run c i --",
     "run --trace c i",
 ];
@@ -347,6 +362,30 @@ const CALLS: &[Row] = &[
         "cycles 1 events=0\n",
     ),
     (
+        "run c i --cycles 1 --irq timer@0-0",
+        SMALL,
+        "",
+        Status::CyclesEnded,
+        "",
+        "cycles 1 events=0\n",
+    ),
+    (
+        "run c i --irq timer@0000000001-0000000002 --irq timer@1-2 --cycles 1",
+        SMALL,
+        "",
+        Status::CyclesEnded,
+        "",
+        "cycles 1 events=0\n",
+    ),
+    (
+        "run c i --trace --irq external@0-4294967295 --cycles 5",
+        SMALL,
+        "",
+        Status::CyclesEnded,
+        "",
+        "cycles 5 events=0\n",
+    ),
+    (
         "run c i --trace --cycles 1",
         SMALL,
         "",
@@ -372,57 +411,52 @@ const CALLS: &[Row] = &[
     ),
 ];
 
-#[test]
-fn each_refusal_has_its_line(rt: HostRuntime) -> Result<(), Fail> {
-    let alloc = rt.alloc();
+/// Whether each refusal has its line.
+fn refusals_have_their_lines(alloc: Global) -> Result<bool, AllocError> {
     for (text, line) in REFUSED {
         let answer = generate(alloc, text.as_bytes(), &[], 0)?;
-        assert!(rt; answer.is(Status::ConfigRefused, "", *line), "{text}");
-    }
-    Ok(())
-}
-
-#[test]
-fn other_words_are_no_call(rt: HostRuntime) -> Result<(), Fail> {
-    let alloc = rt.alloc();
-    let none = call_words(alloc, &Vec::new(alloc), host(alloc, &[], &[], &[], 0)?)?;
-    assert!(rt; none.is(Status::Usage, "", "usage\n"), "no words");
-    for text in USAGE {
-        let answer = call(alloc, *text, host(alloc, &[], &[], &[], 0)?)?;
-        assert!(rt; answer.is(Status::Usage, "", "usage\n"), "{text}");
-    }
-    Ok(())
-}
-
-/// Each call moves all bytes at once, or one at a time.
-#[test]
-fn each_call_has_its_end(rt: HostRuntime) -> Result<(), Fail> {
-    let alloc = rt.alloc();
-    for (text, core, lines, status, main, notes) in CALLS {
-        let config = config(alloc, *core, *lines)?;
-        for bite in [0, 1] {
-            let host = host(alloc, config.as_str().as_bytes(), &IMAGE, &[], bite)?;
-            let answer = call(alloc, *text, host)?;
-            assert!(rt; answer.is(*status, *main, *notes), "{text}");
+        if !answer.is(Status::ConfigRefused, "", *line) {
+            return Ok(false);
         }
     }
-    Ok(())
+    Ok(true)
 }
 
-#[test]
-fn an_empty_image_stops_at_once(rt: HostRuntime) -> Result<(), Fail> {
-    let alloc = rt.alloc();
+/// Whether no words and words that are no call end in the line on usage.
+fn usage_is_told(alloc: Global) -> Result<bool, AllocError> {
+    for text in USAGE {
+        let answer = call(alloc, *text, host(alloc, &[], &[], &[], 0)?)?;
+        if !answer.is(Status::Usage, "", "usage\n") {
+            return Ok(false);
+        }
+    }
+    let none = call_words(alloc, &Vec::new(alloc), host(alloc, &[], &[], &[], 0)?)?;
+    Ok(none.is(Status::Usage, "", "usage\n"))
+}
+
+/// Whether each call has its end, where the host moves so many bytes in a call, all of them for 0.
+fn calls_have_their_ends(alloc: Global, bite: u32) -> Result<bool, AllocError> {
+    for (text, core, lines, status, main, notes) in CALLS {
+        let config = config(alloc, *core, *lines)?;
+        let host = host(alloc, config.as_str().as_bytes(), &IMAGE, &[], bite)?;
+        let answer = call(alloc, *text, host)?;
+        if !answer.is(*status, *main, *notes) {
+            return Ok(false);
+        }
+    }
+    Ok(true)
+}
+
+/// Whether a run of an empty image stops at once.
+fn empty_image_stops(alloc: Global) -> Result<bool, AllocError> {
     let config = config(alloc, SMALL, "memory.size = 4")?;
     let host = host(alloc, config.as_str().as_bytes(), &[], &[], 0)?;
     let answer = call(alloc, "run c i --trace", host)?;
-    assert!(rt;
-        answer.is(
-            Status::Stopped,
-            "T pc=80000000 word=00000000 cause=00000002\n",
-            "stopped cause=00000002 pc=80000000 events=1 cycles=6\n",
-        )
-    );
-    Ok(())
+    Ok(answer.is(
+        Status::Stopped,
+        "T pc=80000000 word=00000000 cause=00000002\n",
+        "stopped cause=00000002 pc=80000000 events=1 cycles=6\n",
+    ))
 }
 
 /// The text of the smallest core.
@@ -437,13 +471,6 @@ fn is_core(answer: &Answer) -> bool {
         && answer.host.pushed(Port::Notes).is_empty()
         && core.starts_with(b"module core(".as_slice())
         && core.ends_with(b"\nendmodule\n".as_slice())
-}
-
-#[test]
-fn a_core_is_written_whole(rt: HostRuntime) -> Result<(), Fail> {
-    let whole = core_text(rt.alloc())?;
-    assert!(rt; is_core(&whole));
-    Ok(())
 }
 
 /// One call of the host finds the file of a configuration, two read it, and one writes the text of a core: the call that
@@ -472,18 +499,6 @@ fn is_cut(core: &Vec<u8>, answer: &Answer, status: Status, line: &str) -> bool {
         && text.len() == whole
 }
 
-#[test]
-fn a_failed_call_cuts_the_output_off(rt: HostRuntime) -> Result<(), Fail> {
-    let alloc = rt.alloc();
-    let whole = core_text(alloc)?;
-    let core = whole.host.pushed(Port::Main);
-    for (call, status, line) in FAILED {
-        let answer = generate(alloc, SMALL.as_bytes(), &[*call], 0)?;
-        assert!(rt; is_cut(core, &answer, *status, *line), "{call}");
-    }
-    Ok(())
-}
-
 /// Whether the first 200 bytes of the text are written, and no line.
 fn is_cut_at_200(core: &Vec<u8>, answer: &Answer) -> bool {
     let text = answer.host.pushed(Port::Main).as_slice();
@@ -493,14 +508,19 @@ fn is_cut_at_200(core: &Vec<u8>, answer: &Answer) -> bool {
         && answer.host.pushed(Port::Notes).is_empty()
 }
 
-/// One call finds the configuration and three read it; the third push of 100 bytes fails.
-#[test]
-fn two_pushes_are_whole(rt: HostRuntime) -> Result<(), Fail> {
-    let alloc = rt.alloc();
+/// Whether the text of a core is written whole, and cut off by the call that fails. Where each push is of 100 bytes, one call finds the
+/// configuration and three read it, and the third push fails.
+fn texts_are_cut(alloc: Global) -> Result<bool, AllocError> {
     let whole = core_text(alloc)?;
+    let core = whole.host.pushed(Port::Main);
+    for (call, status, line) in FAILED {
+        let answer = generate(alloc, SMALL.as_bytes(), &[*call], 0)?;
+        if !is_cut(core, &answer, *status, *line) {
+            return Ok(false);
+        }
+    }
     let cut = generate(alloc, SMALL.as_bytes(), &[7], 100)?;
-    assert!(rt; is_cut_at_200(whole.host.pushed(Port::Main), &cut));
-    Ok(())
+    Ok(is_core(&whole) && is_cut_at_200(core, &cut))
 }
 
 /// Lines on refusals that are cut off, that of the rules behind its first piece: the words, the configuration, the call of
@@ -510,18 +530,16 @@ const CUT_LINES: &[(&str, &str, u32, &str)] = &[
     ("rules c", "", 5, "rules 4 service=fetch"),
 ];
 
-#[test]
-fn a_failed_push_cuts_the_line_off(rt: HostRuntime) -> Result<(), Fail> {
-    let alloc = rt.alloc();
+/// Whether a failed push cuts each of these lines off.
+fn lines_are_cut(alloc: Global) -> Result<bool, AllocError> {
     for (text, config, fails, notes) in CUT_LINES {
-        let answer = call(
-            alloc,
-            *text,
-            host(alloc, config.as_bytes(), &[], &[*fails], 0)?,
-        )?;
-        assert!(rt; answer.is(Status::WriteFault, "", *notes), "{text}");
+        let host = host(alloc, config.as_bytes(), &[], &[*fails], 0)?;
+        let answer = call(alloc, *text, host)?;
+        if !answer.is(Status::WriteFault, "", *notes) {
+            return Ok(false);
+        }
     }
-    Ok(())
+    Ok(true)
 }
 
 /// Whether a part of the lines of a run is written, from its start, and no line on its end.
@@ -533,38 +551,56 @@ fn are_cut_lines(answer: &Answer) -> bool {
         && answer.host.pushed(Port::Notes).is_empty()
 }
 
-/// Three calls of the host read the configuration of a run, and three the image.
-#[test]
-fn a_failed_push_cuts_the_events_off(rt: HostRuntime) -> Result<(), Fail> {
-    let alloc = rt.alloc();
-    for fails in [7, 8, 9] {
-        let host = host(alloc, SMALL.as_bytes(), &IMAGE, &[fails], 0)?;
+/// Pushes of events that fail: three calls of the host read the configuration of a run, and three the image.
+const CUT_EVENTS: &[u32] = &[7, 8, 9];
+
+/// Whether a failed push cuts the events of a run off.
+fn events_are_cut(alloc: Global) -> Result<bool, AllocError> {
+    for fails in CUT_EVENTS {
+        let host = host(alloc, SMALL.as_bytes(), &IMAGE, &[*fails], 0)?;
         let answer = call(alloc, "run c i --trace", host)?;
-        assert!(rt; are_cut_lines(&answer), "{fails}");
+        if !are_cut_lines(&answer) {
+            return Ok(false);
+        }
     }
-    Ok(())
+    Ok(true)
 }
 
-#[test]
-fn long_configurations_are_refused(rt: HostRuntime) -> Result<(), Fail> {
-    let alloc = rt.alloc();
+/// Whether a comment of the greatest length is read, and a longer one refused.
+fn long_configurations_are_refused(alloc: Global) -> Result<bool, AllocError> {
     let mut comment = vec![in alloc; b'#'; 1_048_576]?;
     let whole = generate(alloc, &comment, &[], 0)?;
-    assert!(rt; whole.is(Status::RulesRefused, "", NO_FETCH));
     comment.push(b'#')?;
     let long = generate(alloc, &comment, &[], 0)?;
-    assert!(rt; long.is(Status::ConfigRefused, "", "config long\n"));
-    Ok(())
+    Ok(
+        whole.is(Status::RulesRefused, "", NO_FETCH)
+            && long.is(Status::ConfigRefused, "", "config long\n"),
+    )
 }
 
-#[test]
-fn long_images_are_refused(rt: HostRuntime) -> Result<(), Fail> {
-    let alloc = rt.alloc();
+/// Whether an image of one byte too many is refused, where the host moves so many bytes in a call, all of them for 0.
+fn long_image_is_refused(alloc: Global, bite: u32) -> Result<bool, AllocError> {
     let image = vec![in alloc; 0u8; 65_537]?;
-    for bite in [0, 1] {
-        let host = host(alloc, SMALL.as_bytes(), &image, &[], bite)?;
-        let answer = call(alloc, "run c i --trace", host)?;
-        assert!(rt; answer.is(Status::ImageRefused, "", "image outside addr=80010000\n"));
-    }
-    Ok(())
+    let host = host(alloc, SMALL.as_bytes(), &image, &[], bite)?;
+    let answer = call(alloc, "run c i --trace", host)?;
+    Ok(answer.is(Status::ImageRefused, "", "image outside addr=80010000\n"))
+}
+
+/// Whether each call ends as it is to.
+pub fn ends_are_right(alloc: Global) -> Result<bool, AllocError> {
+    Ok(
+        refusals_have_their_lines(alloc)?
+            && usage_is_told(alloc)?
+            && calls_have_their_ends(alloc, 0)?
+            && calls_have_their_ends(alloc, 1)?
+            && empty_image_stops(alloc)?
+            && long_configurations_are_refused(alloc)?
+            && long_image_is_refused(alloc, 0)?
+            && long_image_is_refused(alloc, 1)?,
+    )
+}
+
+/// Whether what is pushed is cut off where a call of the host fails.
+pub fn cuts_are_right(alloc: Global) -> Result<bool, AllocError> {
+    Ok(texts_are_cut(alloc)? && lines_are_cut(alloc)? && events_are_cut(alloc)?)
 }

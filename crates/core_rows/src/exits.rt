@@ -5,7 +5,6 @@ use crate::{caches, csrs};
 use core_host::Port;
 use core_tool::Status;
 use std::alloc::{AllocError, Global};
-use std::test::Fail;
 
 /// A run: other lines of the core's configuration, the options, the image, the status, and what is pushed on the two ports.
 pub type End = (
@@ -200,7 +199,7 @@ const ENDS: &[End] = &[
 ];
 
 /// Whether each run of this core ends as its row says.
-fn have_ends(alloc: Global, core: &str, runs: &[End]) -> Result<bool, AllocError> {
+pub fn have_ends(alloc: Global, core: &str, runs: &[End]) -> Result<bool, AllocError> {
     for (lines, options, image, status, main, line) in runs {
         let text = format!(in alloc; "run c i{options}")?;
         let config = config(alloc, core, *lines)?;
@@ -212,12 +211,13 @@ fn have_ends(alloc: Global, core: &str, runs: &[End]) -> Result<bool, AllocError
     Ok(true)
 }
 
-#[test]
-fn runs_end_by_their_exit(rt: HostRuntime) -> Result<(), Fail> {
-    assert!(rt; have_ends(rt.alloc(), INTEGER, ENDS)?);
-    assert!(rt; have_ends(rt.alloc(), csrs::REGISTERS, csrs::RUNS)?);
-    assert!(rt; have_ends(rt.alloc(), caches::WHOLE, caches::ENDS)?);
-    Ok(())
+/// Whether each core's runs end by their exit.
+pub fn exits_are_right(alloc: Global) -> Result<bool, AllocError> {
+    Ok(
+        have_ends(alloc, INTEGER, ENDS)?
+            && have_ends(alloc, csrs::REGISTERS, csrs::RUNS)?
+            && have_ends(alloc, caches::WHOLE, caches::ENDS)?,
+    )
 }
 
 /// Hosts that fail, the seventh call being the first push, that move a byte at a time, or that have no room: the call that fails, how many
@@ -238,14 +238,12 @@ fn fails(alloc: Global, host: (u32, u32, u32), wanted: (Status, &str)) -> Result
     Ok(status == wanted.0 && host.pushed(Port::Main).as_slice() == wanted.1.as_bytes())
 }
 
-#[test]
-fn a_failed_push_cuts_the_text_off(rt: HostRuntime) -> Result<(), Fail> {
+/// Whether each such host cuts the text off as it is to.
+pub fn cuts_are_right(alloc: Global) -> Result<bool, AllocError> {
     for (call, bite, room, status, main) in FAULTS {
-        let host = (*call, *bite, *room);
-        assert!(rt;
-            fails(rt.alloc(), host, (*status, *main))?,
-            "{call} {bite} {room}"
-        );
+        if !fails(alloc, (*call, *bite, *room), (*status, *main))? {
+            return Ok(false);
+        }
     }
-    Ok(())
+    Ok(true)
 }

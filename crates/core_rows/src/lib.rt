@@ -12,9 +12,13 @@ mod exits;
 #[cfg(test)]
 mod hosts;
 #[cfg(test)]
+mod irqs;
+#[cfg(test)]
 mod jumps;
 #[cfg(test)]
 mod loads;
+#[cfg(test)]
+mod rows;
 #[cfg(test)]
 mod runs;
 #[cfg(test)]

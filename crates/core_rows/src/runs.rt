@@ -3,7 +3,6 @@ use crate::{caches, csrs, jumps, loads, units};
 use core_host::Port;
 use core_tool::Status;
 use std::alloc::{AllocError, Global};
-use std::test::Fail;
 
 /// A run with `--trace`: the core, the options behind, the image, and what is pushed on the two ports.
 pub type Run = (
@@ -18,9 +17,7 @@ pub type Run = (
 pub fn bytes_of(alloc: Global, image: &[u32]) -> Result<Vec<u8>, AllocError> {
     let mut bytes = Vec::new(alloc);
     for word in image {
-        for byte in word.to_le_bytes() {
-            bytes.push(byte)?;
-        }
+        bytes.extend_from_slice(&word.to_le_bytes())?;
     }
     Ok(bytes)
 }
@@ -87,33 +84,23 @@ fn have_events(alloc: Global, runs: &[Run], stages: &str, wait: &str) -> Result<
     Ok(true)
 }
 
-#[test]
-fn runs_have_their_events_and_cycles(rt: HostRuntime) -> Result<(), Fail> {
-    assert!(rt; all_end(rt.alloc(), jumps::RUNS)?);
-    assert!(rt; all_end(rt.alloc(), units::RUNS)?);
-    assert!(rt; all_end(rt.alloc(), loads::RUNS)?);
-    assert!(rt; all_end(rt.alloc(), caches::RUNS)?);
-    Ok(())
+/// Whether the runs of each core have their events and cycles.
+pub fn runs_are_right(alloc: Global) -> Result<bool, AllocError> {
+    Ok(
+        all_end(alloc, jumps::RUNS)?
+            && all_end(alloc, units::RUNS)?
+            && all_end(alloc, loads::RUNS)?
+            && all_end(alloc, caches::RUNS)?,
+    )
 }
 
-/// The events are the same with 2 and 3 stages, with a bus that waits and without.
-#[test]
-fn runs_have_their_events_with_fewer_stages(rt: HostRuntime) -> Result<(), Fail> {
-    for (stages, wait) in [("stages = 2", ""), ("stages = 3", " --wait 2")] {
-        assert!(rt;
-            have_events(rt.alloc(), jumps::RUNS, stages, wait)?,
-            "{stages}"
-        );
-        assert!(rt;
-            have_events(rt.alloc(), units::RUNS, stages, wait)?,
-            "{stages}"
-        );
-        assert!(rt;
-            have_events(rt.alloc(), loads::RUNS, stages, wait)?,
-            "{stages}"
-        );
-    }
-    Ok(())
+/// Whether runs have the same events with so many stages, and with these options where their rows have none.
+pub fn events_are_right(alloc: Global, stages: &str, wait: &str) -> Result<bool, AllocError> {
+    Ok(
+        have_events(alloc, jumps::RUNS, stages, wait)?
+            && have_events(alloc, units::RUNS, stages, wait)?
+            && have_events(alloc, loads::RUNS, stages, wait)?,
+    )
 }
 
 /// Whether each configuration is accepted, or refused with its line.
@@ -131,12 +118,13 @@ fn all_are_judged(alloc: Global, rules: &[(&str, &str)]) -> Result<bool, AllocEr
     Ok(true)
 }
 
-#[test]
-fn rules_are_tried(rt: HostRuntime) -> Result<(), Fail> {
-    assert!(rt; all_are_judged(rt.alloc(), jumps::RULES)?);
-    assert!(rt; all_are_judged(rt.alloc(), units::RULES)?);
-    assert!(rt; all_are_judged(rt.alloc(), loads::RULES)?);
-    assert!(rt; all_are_judged(rt.alloc(), csrs::RULES)?);
-    assert!(rt; all_are_judged(rt.alloc(), caches::RULES)?);
-    Ok(())
+/// Whether each configuration is judged as it is to be.
+pub fn rules_are_right(alloc: Global) -> Result<bool, AllocError> {
+    Ok(
+        all_are_judged(alloc, jumps::RULES)?
+            && all_are_judged(alloc, units::RULES)?
+            && all_are_judged(alloc, loads::RULES)?
+            && all_are_judged(alloc, csrs::RULES)?
+            && all_are_judged(alloc, caches::RULES)?,
+    )
 }
