@@ -1,0 +1,10 @@
+use Rattle.std.proofs.Common.{◌∙◌, List, get_or, ap, sym, rules}
+use Rattle.service_ports.specs.declared.ports.ExecOffer.{ExecOffer}
+use Rattle.part_alone.specs.Built.{world_in}
+use Rattle.part_alone.proofs.Seen.{exec_in}
+use Rattle.part_alone.proofs.stands.exec_stand.Goals as goal
+
+pub make_stand-requires-clause-nets : goal.make_stand-requires-clause-nets
+make_stand-requires-clause-nets c =
+    exec_in (world_in c.args.part) c.requires c.index.result.now (search rules)
+    (ap (λ (xs : List ExecOffer). get_or xs 0 c.index.result.now) (sym c.execs-2.ensures) ∙ sym c.index.ensures)
