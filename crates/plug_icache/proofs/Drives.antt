@@ -83,3 +83,12 @@ regs_then a b c m n total first second sum = record {
       (subst (λ (e : ℕ). Makes (Entry e) r b.design c.design n) first.entry (second.makes r)) (omega arith);
   drivers = λ pool h. second.drivers pool (first.drivers pool h);
 }
+
+-- four steps
+pub regs_four : (a b c d e : BuilderValue) → MakesRegs 1 a b → MakesRegs 1 b c → MakesRegs 1 c d → MakesRegs 1 d e → MakesRegs 4 a e
+regs_four a b c d e first second third fourth =
+    regs_then a d e 3 1 4 (regs_then a c d 2 1 3 (regs_then a b c 1 1 2 first second (omega arith)) third (omega arith)) fourth (omega arith)
+
+pub drives_four : (a b c d e : BuilderValue) → Drives 1 a b → Drives 1 b c → Drives 1 c d → Drives 1 d e → Drives 4 a e
+drives_four a b c d e first second third fourth =
+    drives_then a d e 3 1 4 (drives_then a c d 2 1 3 (drives_then a b c 1 1 2 first second (omega arith)) third (omega arith)) fourth (omega arith)

@@ -8,3 +8,4 @@ mod Arrays
 mod Found
 mod Left
 mod Parts
+mod Sized

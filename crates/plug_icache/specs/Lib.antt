@@ -4,3 +4,4 @@ pub mod Registers
 pub mod Builds
 pub mod Begun
 pub mod Late
+pub mod Powers

@@ -17,13 +17,16 @@ mod read;
 mod whole;
 
 ghost use Rattle.plug_icache.specs.Builds.{IcachePartsKeepLines, IcachePartsMeetLaws};
+ghost use Rattle.plug_icache.specs.Powers.{IcacheSizesArePowers};
 
 pub use plugin::Icache;
 
 /// Each part whose trees have the equations, whatever stands outside, meets the laws of a part with a latency of
 /// lines + 4 words + 12 + (4 words + 4) w cycles, and keeps the law of its cache in all its runs: it reads nothing again that it
-/// holds, and offers what it holds without a gap. This does nothing: its contract is the laws.
+/// holds, and offers what it holds without a gap. The sizes of an entry without a fault are powers of two (`sizes`). This does nothing:
+/// its contract is the laws.
 pub fn icache_parts_meet_their_laws()
     ensures laws { IcachePartsMeetLaws }
     ensures cache { IcachePartsKeepLines }
+    ensures sizes { IcacheSizesArePowers }
 {}
