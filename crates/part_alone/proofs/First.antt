@@ -1,6 +1,6 @@
 -- Before anything builds.
-use Rattle.std.proofs.Common.{◌≡◌, ◌∙◌, ℕ, zero, suc, ◌≤◌, List, [], length, get_or, refl, arith, ap, sym, subst, Option, None}
-use Rattle.std.specs.Prelude.{false, true, replicate}
+use Rattle.std.proofs.Common.{◌≡◌, ℕ, zero, suc, [], get_or, refl, arith, ap, sym, subst, Option, None}
+use Rattle.std.specs.Prelude.{false, replicate}
 use Rattle.std.proofs.lemmas.Bool.{both_ways}
 use Rattle.hw_pool.specs.Nodes.{PoolValue}
 use Rattle.hw_expr.specs.declared.net.Net.{Net}
@@ -12,7 +12,6 @@ use Rattle.service_reg.specs.declared.service.Service.TheVariants.{Fetch, Predic
 use Rattle.service_ports.specs.Registry.{RegistryValue, Offered, single, offer_of}
 use Rattle.service_ports.proofs.Offers.{none_some}
 use Rattle.plug_part.specs.Owned.{is_input_of, ports_of}
-use Rattle.plug_build.specs.World.{World}
 use Rattle.plug_build.specs.Fits.{OfferKey, ports_at}
 use Rattle.plug_build.specs.Fits.OfferKey.{The, ExecAt}
 use Rattle.part_alone.specs.Built.{IsBare}

@@ -1,14 +1,13 @@
 -- What is offered while entries build one behind the other, and when an entry may build.
-use Rattle.std.proofs.Common.{◌≡◌, ◌∙◌, ℕ, zero, suc, ◌+◌, ◌*◌, ◌/◌, ◌<◌, ◌≤◌, List, [], ◌∷◌, ◌++◌, length, get_or, refl, arith, ap, sym, subst, true, false, is_some, ◌||◌, ◌&&◌, Option, None, Some}
+use Rattle.std.proofs.Common.{◌≡◌, ◌∙◌, ℕ, ◌+◌, ◌*◌, ◌/◌, ◌≤◌, List, [], ◌∷◌, ◌++◌, length, refl, arith, ap, sym, subst, true, false, is_some, ◌||◌, ◌&&◌, Option, None, Some}
 use Rattle.std.proofs.lemmas.Bool.{both_ways}
-use Rattle.hw_pool.specs.Nodes.{PoolValue}
-use Rattle.hw_expr.specs.declared.net.Net.{Net}
 use Rattle.hw_module.specs.declared.rows.Owner.TheVariants.{Entry}
 use Rattle.hw_module.specs.Rights.{Rights}
 use Rattle.hw_module.specs.Rows.{ModuleValue}
 use Rattle.service_reg.specs.declared.service.Service.{Service}
 use Rattle.service_reg.specs.declared.service.Service.TheVariants.{Fetch, Predict, Decoder, RegFile, Hazard, Exec, DataBus, System}
-use Rattle.service_ports.specs.Registry.{RegistryValue, Offered, OffersBy, own_single, single}
+use Rattle.service_ports.specs.Ports.{Ports}
+use Rattle.service_ports.specs.Registry.{RegistryValue, Offered, OffersBy, exec_of, offer_of, own_single, single}
 use Rattle.service_ports.proofs.Offers.{none_some}
 use Rattle.plug_part.specs.Owned.{is_bus_out, is_fetch_out, is_input_of, is_predict_input, offers, ports_of}
 use Rattle.plug_build.specs.World.{World, Builds}
@@ -104,51 +103,42 @@ cheap spec plan rows few =
     let e : half_cost spec plan ≡ (spec.cost.fixed + 0 * length plan.rows) / 2 = ap (λ (n : ℕ). (spec.cost.fixed + n * length plan.rows) / 2) rows in
     omega arith
 
--- what offers Hazard offers nothing that RegFile's entry does
-apart : (s : Service) → is_among (Hazard ∷ []) s ≡ true → is_among (RegFile ∷ []) s ≡ false
-apart Fetch is = refl
-apart Predict is = refl
-apart Decoder is = refl
-apart RegFile is = absurd (both_ways false refl is)
-apart Hazard is = refl
-apart Exec is = refl
-apart DataBus is = refl
-apart System is = refl
+module _ (other : PlugSpec) (w w' : World) (bare : IsBare w) (built : HasBuilt other 0 w w') where
+  -- what the other says that it offers is there
+  is-there : (s : Service) → is_among other.offers s ≡ true → (offer_of w'.reg 0 s ≡ None → ⊥)
+  is-there s says none = both_ways (offers w'.reg 0 s) (ap (λ (o : Option Ports). is_some o) none) (built.offered s ∙ says)
 
-module _ (regs : PlugSpec) (w w' : World) (bare : IsBare w) (built : HasBuilt regs 0 w w') (said : regs.offers ≡ RegFile ∷ []) where
-  regfile-there : IsThere w'.reg RegFile
-  regfile-there none =
-      both_ways (offers w'.reg 0 RegFile) (ap (λ (o : Option Offered). is_some (own_single 0 o)) none) (built.offered RegFile ∙ ap (λ ss. is_among ss RegFile) said)
+  single-there : (s : Service) → is_among other.offers s ≡ true → offer_of w'.reg 0 s ≡ own_single 0 (single w'.reg s) → single w'.reg s ≡ None → ⊥
+  single-there s says is none = is-there s says (is ∙ ap (λ (o : Option Offered). own_single 0 o) none)
 
-  needs-there : (s : Service) → is_among (RegFile ∷ []) s ≡ true → IsThere w'.reg s
-  needs-there Fetch is = absurd (both_ways false refl is)
-  needs-there Predict is = absurd (both_ways false refl is)
-  needs-there Decoder is = absurd (both_ways false refl is)
-  needs-there RegFile is = regfile-there
-  needs-there Hazard is = absurd (both_ways false refl is)
-  needs-there Exec is = absurd (both_ways false refl is)
-  needs-there DataBus is = absurd (both_ways false refl is)
-  needs-there System is = absurd (both_ways false refl is)
+  there : (s : Service) → is_among other.offers s ≡ true → IsThere w'.reg s
+  there Fetch says = single-there Fetch says refl
+  there Predict says = single-there Predict says refl
+  there Decoder says = single-there Decoder says refl
+  there RegFile says = single-there RegFile says refl
+  there Hazard says = single-there Hazard says refl
+  there Exec says = λ none. is-there Exec says (ap (λ xs. exec_of 0 xs) none)
+  there DataBus says = single-there DataBus says refl
+  there System says = single-there System says refl
 
-  -- beside RegFile, what offers Hazard
-  pub second_may : (spec : PlugSpec) (plan : Plan) → 2 ≤ w.reg.room → IsLawful spec plan 1 → half_cost spec plan ≤ 2080 → spec.offers ≡ Hazard ∷ [] → spec.needs ≡ RegFile ∷ [] → MayBuild spec plan 1 w'
-  second_may spec plan room lawful few says needs = record {
+  unoffered-yet : (s : Service) → is_among other.offers s ≡ false → single w'.reg s ≡ None
+  unoffered-yet s says = still_none 0 w.reg w'.reg s built.offers (bare.unoffered s) (built.offered s ∙ says)
+
+  pub second_may : (spec : PlugSpec) (plan : Plan) → 2 ≤ w.reg.room → IsLawful spec plan 1 → IsBeside other spec → MayBuild spec plan 1 w'
+  second_may spec plan room lawful b = record {
     lawful = lawful;
-    few = few;
+    few = cheap spec plan b.rows b.few;
     fits = built.fits;
     nothing = built.nothing 1 (λ e. omega arith) (bare.nothing 1);
-    unoffered = λ s is.
-        still_none 0 w.reg w'.reg s built.offers (bare.unoffered s)
-        (built.offered s ∙ (ap (λ ss. is_among ss s) said ∙ apart s (ap (λ ss. is_among ss s) (sym says) ∙ is)));
-    outs = λ p is. absurd (both_ways _ (ap (λ ss. (is_among ss Fetch && is_fetch_out p) || (is_among ss DataBus && is_bus_out p)) says) is);
-    needs = λ s is. needs-there s (ap (λ ss. is_among ss s) (sym needs) ∙ is);
-    predict = still_none 0 w.reg w'.reg Predict built.offers (bare.unoffered Predict) (built.offered Predict ∙ ap (λ ss. is_among ss Predict) said);
-    none = λ is. ap (λ ss. is_among ss Predict) says;
+    unoffered = λ s is. unoffered-yet s (b.apart s is);
+    outs = λ p is. absurd (both_ways _ ((λ i. (b.ibus i && is_fetch_out p) || (b.dbus i && is_bus_out p))) is);
+    needs = λ s is. there s (b.needs s is);
+    predict = unoffered-yet Predict b.predict;
+    none = λ is. absurd (both_ways _ b.ibus is);
     offer = let room_left = built.offer in omega arith;
   }
 
--- the same, by what each says of itself
-pub beside_may : (regs spec : PlugSpec) (plan : Plan) (e : ℕ) (w w' : World) → e ≡ 0 → IsBare w → 2 ≤ w.reg.room → HasBuilt regs e w w' → regs.offers ≡ RegFile ∷ [] → IsBeside spec
-    → IsLawful spec plan 1 → MayBuild spec plan 1 w'
-beside_may regs spec plan e w w' zeroth bare room built said b lawful =
-    second_may regs w w' bare (subst (λ (n : ℕ). HasBuilt regs n w w') zeroth built) said spec plan room lawful (cheap spec plan b.rows b.few) b.offers b.needs
+-- the same, where the first was built as entry 0
+pub beside_may : (other spec : PlugSpec) (plan : Plan) (e : ℕ) (w w' : World) → e ≡ 0 → IsBare w → 2 ≤ w.reg.room → HasBuilt other e w w' → IsBeside other spec → IsLawful spec plan 1
+    → MayBuild spec plan 1 w'
+beside_may other spec plan e w w' zeroth bare room built b lawful = second_may other w w' bare (subst (λ (n : ℕ). HasBuilt other n w w') zeroth built) spec plan room lawful b

@@ -1,34 +1,16 @@
--- Plans of no claims, and of claims of some rows of the table.
+-- Plans of claims of some rows of the table.
 use Rattle.std.proofs.Common.{◌≡◌, ◌∙◌, ℕ, suc, ◌+◌, ◌<◌, ◌≤◌, List, [], ◌∷◌, ◌++◌, length, get_or, refl, ap, sym, arith, subst, eqb, false, cond, length-append, inl, inr}
-use Rattle.std.proofs.lemmas.Bool.{cases_lt, eq-eqb}
+use Rattle.std.proofs.lemmas.Bool.{cases_lt}
 use Rattle.std.proofs.lemmas.Bool.Decides.{nat_tests}
 use Rattle.std.proofs.Math.ListN.{get_or-append}
 use Rattle.isa_table.specs.declared.claim.Claim.{Claim}
 use Rattle.plug_api.specs.declared.spec.Plan.{Plan}
-use Rattle.plug_api.specs.declared.spec.PlugSpec.{PlugSpec}
 use Rattle.plug_api.specs.Spec.{IsOfTable, no_claim}
 use Rattle.plug_api.specs.Calls.{IsLawful, IsShape, rows_by}
 use Rattle.plug_kinds.specs.declared.kind.Kind.TheVariants as kind
 use Rattle.plug_kinds.specs.Kinds.{spec_of}
 use Rattle.part_alone.specs.Chosen.{Chosen}
 use Rattle.part_alone.proofs.Alone.{same_row}
-
--- a plan of two entries without claims
-pub two : (spec : PlugSpec) (plan : Plan) (e : ℕ) → e < 2 → spec.rows ≡ [] → plan.rows ≡ [] → plan.owners ≡ [] → IsShape plan.shape → length plan.picks ≡ 2 → IsLawful spec plan e
-two spec plan e l none rows owners shape picks =
-    let no_rows : length plan.rows ≡ 0 = ap length rows in
-    let no_owners : length plan.owners ≡ 0 = ap length owners in
-    record {
-      shape = shape;
-      few = omega arith;
-      there = omega arith;
-      each = no_rows ∙ sym no_owners;
-      owned = λ k m. absurd (omega arith);
-      in_table = λ k m. absurd (omega arith);
-      rows_differ = λ j k m n same. absurd (omega arith);
-      apart = λ j k m n both. absurd (omega arith);
-      own = (λ i. rows_by e (rows i) (owners i)) ∙ sym none;
-    }
 
 pub none_yet : Chosen [] [] 0
 none_yet = record {

@@ -1,5 +1,5 @@
 -- The outputs of a service are nets of the module.
-use Rattle.std.proofs.Common.{◌≡◌, ◌∙◌, ℕ, zero, suc, ◌<◌, List, [], ◌∷◌, length, get_or, ◌++◌, refl, arith, ap, Option, None, Some}
+use Rattle.std.proofs.Common.{◌≡◌, ℕ, zero, suc, ◌<◌, List, [], ◌∷◌, length, get_or, ◌++◌, arith, ap, Option, None, Some}
 use Rattle.hw_pool.specs.Nodes.{PoolValue}
 use Rattle.hw_expr.specs.declared.net.Net.{Net}
 use Rattle.hw_module.specs.Rows.{ModuleValue}

@@ -1,5 +1,5 @@
 -- When a plug-in may build alone, or beside one that it needs, and what it has built then.
-use Rattle.std.specs.Prelude.{◌≡◌, ℕ, ◌+◌, ◌≤◌, [], ◌∷◌, true, false, None}
+use Rattle.std.specs.Prelude.{◌≡◌, ℕ, ◌+◌, ◌≤◌, [], true, false, None}
 use Rattle.hw_module.specs.Rows.{out_at}
 use Rattle.service_reg.specs.declared.service.Service.{Service}
 use Rattle.service_reg.specs.declared.service.Service.TheVariants as service
@@ -54,10 +54,13 @@ pub record IsAlone (spec : PlugSpec) : Type 0 where
   -- what offers Fetch offers no Predict
   pub none : is_among spec.offers service.Fetch ≡ true → is_among spec.offers service.Predict ≡ false
 
--- it offers Hazard and needs RegFile alone, claims nothing, and its cost does not depend on claims
-pub record IsBeside (spec : PlugSpec) : Type 0 where
-  pub claims : spec.rows ≡ []
+-- Beside another it finds what it needs. It offers nothing that the other does, and has no bus; its cost does not depend on claims, and
+-- the other offers no Predict.
+pub record IsBeside (other spec : PlugSpec) : Type 0 where
   pub rows : spec.cost.per_row ≡ 0
   pub few : spec.cost.fixed ≤ 4160
-  pub offers : spec.offers ≡ service.Hazard ∷ []
-  pub needs : spec.needs ≡ service.RegFile ∷ []
+  pub needs : (s : Service) → is_among spec.needs s ≡ true → is_among other.offers s ≡ true
+  pub apart : (s : Service) → is_among spec.offers s ≡ true → is_among other.offers s ≡ false
+  pub ibus : is_among spec.offers service.Fetch ≡ false
+  pub dbus : is_among spec.offers service.DataBus ≡ false
+  pub predict : is_among other.offers service.Predict ≡ false

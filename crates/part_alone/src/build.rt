@@ -1,4 +1,4 @@
-ghost use Rattle.std.specs.Prelude.{◌≡◌, ◌≤◌, [], ◌∷◌, IfOk, IsTrue, OnOk, false, true};
+ghost use Rattle.std.specs.Prelude.{◌≡◌, ◌≤◌, [], IfOk, IsTrue, OnOk, false, true};
 ghost use Rattle.stage_map.specs.declared.config.PlugEntry.{PlugEntry};
 ghost use Rattle.service_reg.specs.declared.service.Service.TheVariants as service;
 ghost use Rattle.plug_build.specs.Fits.{WorldFits};
@@ -108,17 +108,20 @@ fn built_alone<P: Plugin>(alloc: Global, plug: &P) -> Result<Part, AllocError>
     built(alloc, plug, &plan)
 }
 
-/// What a plug-in that offers Hazard builds beside the registers.
-fn built_beside<P: Plugin, Q: Plugin>(alloc: Global, regs: &P, plug: &Q) -> Result<Part, AllocError>
-    requires alone { IsAlone (P.spec_now regs.now) }
-    requires registers { (P.spec_now regs.now).offers ≡ service.RegFile ∷ [] }
-    requires claims { (P.spec_now regs.now).rows ≡ [] }
-    requires beside { IsBeside (Q.spec_now plug.now) }
+/// What a plug-in builds beside another that offers what it needs.
+fn built_beside<P: Plugin, Q: Plugin>(
+    alloc: Global,
+    other: &P,
+    plug: &Q,
+) -> Result<Part, AllocError>
+    requires alone { IsAlone (P.spec_now other.now) }
+    requires claims { (P.spec_now other.now).rows ≡ [] }
+    requires beside { IsBeside (P.spec_now other.now) (Q.spec_now plug.now) }
     ensures fits { IfOk result (λ p. WorldFits (world_in p)) }
 {
-    let plan = plan_of_two(alloc)?;
+    let plan = plan_of_two(alloc, plug.spec())?;
     let mut part = nothing(alloc)?;
-    build_in(regs, &plan, &mut part)?;
+    build_in(other, &plan, &mut part)?;
     part.builder.set_entry(1);
     build_in(plug, &plan, &mut part)?;
     Ok(part)
@@ -150,24 +153,23 @@ pub fn stand_alone<P: Plugin>(
     stand_of(alloc, built_alone(alloc, &plug)?)
 }
 
-/// The part of a plug-in that takes this entry and offers Hazard, beside the registers.
+/// The part of a plug-in that takes this entry, beside another that offers what it needs.
 ///
 /// # Errors
 /// `AllocError` where the entry or memory was refused, or the room of the module is used up.
 pub fn stand_beside<P: Plugin, Q: Plugin>(
     alloc: Global,
-    regs: &P,
+    other: &P,
     plug: Q,
     entry: &PlugEntry,
 ) -> Result<Stand, AllocError>
-    requires alone { IsAlone (P.spec_now regs.now) }
-    requires registers { (P.spec_now regs.now).offers ≡ service.RegFile ∷ [] }
-    requires claims { (P.spec_now regs.now).rows ≡ [] }
-    requires beside { (e : PlugEntry) → IsBeside (Q.spec_taken plug e) }
+    requires alone { IsAlone (P.spec_now other.now) }
+    requires claims { (P.spec_now other.now).rows ≡ [] }
+    requires beside { (e : PlugEntry) → IsBeside (P.spec_now other.now) (Q.spec_taken plug e) }
 {
     let mut plug = plug;
     take(alloc, &mut plug, entry)?;
-    stand_of(alloc, built_beside(alloc, regs, &plug)?)
+    stand_of(alloc, built_beside(alloc, other, &plug)?)
 }
 
 /// The part of a decoder of those rows of the table of which this number has the bit, which are of entries 1, 2 and 3 by turns.

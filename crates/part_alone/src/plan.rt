@@ -1,4 +1,4 @@
-ghost use Rattle.std.specs.Prelude.{◌≡◌, ℕ, ◌+◌, ◌<◌, ◌≤◌, [], IfOk, OnOk, length};
+ghost use Rattle.std.specs.Prelude.{◌≡◌, ◌+◌, ◌<◌, ◌≤◌, [], IfOk, OnOk, length};
 ghost use Rattle.plug_api.specs.Calls.{IsLawful};
 ghost use Rattle.plug_api.specs.Spec.{IsSpec};
 ghost use Rattle.plug_api.specs.declared.spec.PlugSpec.{PlugSpec};
@@ -40,17 +40,21 @@ pub(crate) fn plan_alone(alloc: Global, spec: &PlugSpec) -> Result<Plan, AllocEr
     })
 }
 
-/// The plan of a core with two entries that claim nothing.
-pub(crate) fn plan_of_two(alloc: Global) -> Result<Plan, AllocError>
-    ensures lawful { IfOk result (λ plan. (spec : PlugSpec) (e : ℕ) → e < 2 → spec.rows ≡ [] → IsLawful spec plan e) }
-    ensures none { IfOk result (λ plan. plan.rows ≡ []) }
+/// The plan of a core with two entries: one that claims nothing, and that of a plug-in that says this.
+#[tactic(auto, using(crate::proofs::Alone::first_lawful, crate::proofs::Alone::second_lawful))]
+pub(crate) fn plan_of_two(alloc: Global, spec: &PlugSpec) -> Result<Plan, AllocError>
+    requires { IsSpec spec.now }
+    ensures first { IfOk result (λ plan. (first : PlugSpec) → first.rows ≡ [] → IsLawful first plan 0) }
+    ensures second { IfOk result (λ plan. IsLawful spec.now plan 1) }
 {
+    let PlugSpec { rows, .. } = spec.copy(alloc)?;
+    let owners = vec![in alloc; 1; rows.items().len()]?;
     Ok(Plan {
         shape: SHAPE,
         picks: List::of(vec![in alloc; 0; 2]?),
         order: List::of(vec![in alloc; 0; 2]?),
-        rows: List::of(Vec::new(alloc)),
-        owners: List::of(Vec::new(alloc)),
+        rows,
+        owners: List::of(owners),
         has_csr: false,
         wanted: 0,
     })

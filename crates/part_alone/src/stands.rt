@@ -16,7 +16,7 @@ pub struct Stand {
     pub ins: Vec<u32>,
     pub outs: Vec<Net>,
     pub made: (u32, u32),
-    /// It offers Fetch: its outputs are registers, and its bus is that of instructions.
+    /// Fetch is under test: its outputs are registers, and its bus is that of instructions.
     pub fetches: bool,
 }
 
@@ -25,7 +25,7 @@ fn make_stand(alloc: Global, part: Part, ins: &[u32], outs: &[Net]) -> Result<St
     requires fits { DriversFit part.builder.design part.pool }
     requires nets { AreIn part.builder.design part.pool outs.now }
 {
-    let fetches = part.reg.fetch().is_some();
+    let fetches = part.reg.fetch().is_some() && part.reg.execs().is_empty();
     let Part {
         pool,
         builder,
@@ -173,7 +173,7 @@ fn predict_stand(alloc: Global, part: Part) -> Result<Stand, AllocError>
     make_stand(alloc, part, &[p.pc, p.word], &nets)
 }
 
-/// The stand of a part, by what it offers.
+/// The stand of a part, by what it offers: a unit that does instructions also where it stands beside what fetches.
 pub(crate) fn stand_of(alloc: Global, part: Part) -> Result<Stand, AllocError>
     requires { WorldFits (world_in part) }
 {
@@ -182,6 +182,9 @@ pub(crate) fn stand_of(alloc: Global, part: Part) -> Result<Stand, AllocError>
     }
     if part.reg.hazard().is_some() {
         return hazard_stand(alloc, part);
+    }
+    if !part.reg.execs().is_empty() {
+        return exec_stand(alloc, part);
     }
     if part.reg.fetch().is_some() {
         return fetch_stand(alloc, part);
@@ -192,8 +195,5 @@ pub(crate) fn stand_of(alloc: Global, part: Part) -> Result<Stand, AllocError>
     if part.reg.decoder().is_some() {
         return decoder_stand(alloc, part);
     }
-    if part.reg.regfile().is_some() {
-        return regfile_stand(alloc, part);
-    }
-    exec_stand(alloc, part)
+    regfile_stand(alloc, part)
 }

@@ -5,6 +5,7 @@ use plug_branch::Branch;
 use plug_csr::Csr;
 use plug_dbus::Dbus;
 use plug_decoder::Decoder;
+use plug_fencei::Fencei;
 use plug_fetch::Fetch;
 use plug_hazard::Hazard;
 use plug_icache::Icache;
@@ -126,6 +127,13 @@ fn hazard(alloc: Global, entry: &PlugEntry) -> Result<Stand, AllocError> {
     stand_beside(alloc, &regs, plug, entry)
 }
 
+/// The part of the unit of FENCE.I, beside what fetches.
+fn fencei(alloc: Global, entry: &PlugEntry) -> Result<Stand, AllocError> {
+    let fetch = Fetch::new(alloc)?;
+    let plug = Fencei::new(alloc)?;
+    stand_beside(alloc, &fetch, plug, entry)
+}
+
 /// The decoder of a set of rows.
 fn decoder(alloc: Global, rows: &str) -> Result<Stand, AllocError> {
     let plug = Decoder::new(alloc)?;
@@ -148,6 +156,7 @@ fn stand_by(alloc: Global, kind: &str, entry: &PlugEntry, rows: &str) -> Result<
         "csr" => csr(alloc, entry),
         "regfile" => regfile(alloc, entry),
         "hazard" => hazard(alloc, entry),
+        "fencei" => fencei(alloc, entry),
         "decoder" => decoder(alloc, rows),
         _other => Err(AllocError),
     }
